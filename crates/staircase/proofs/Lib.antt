@@ -1,0 +1,4 @@
+pub mod Bytes
+pub mod Rising
+pub mod Halving
+pub mod Filled

@@ -1,0 +1,3 @@
+pub mod Stairs
+pub mod Values
+pub mod Laws

@@ -1,0 +1,4 @@
+pub mod Settings
+pub mod Entries
+pub mod File
+pub mod Spelling

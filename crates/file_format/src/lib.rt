@@ -1,0 +1,1 @@
+// The settings file, by definitions alone: what its bytes say, and which bytes say it.

@@ -22,3 +22,11 @@ given-ok false f x y e = let z : _≡_ {A = ℕ} 0 1 = cc in absurd (omega arith
 pub given-err : {X F : Type 0} (t : Bool) (f e : F) (x : X) → Err e ≡ given t f (Ok x) → (t ≡ false) × (e ≡ f)
 given-err true f e x h = let z : _≡_ {A = ℕ} 0 1 = cc in absurd (omega arith)
 given-err false f e x h = (refl, cc)
+
+pub given-test : {X F : Type 0} (t : Bool) (f : F) (a : Result X F) (x : X) → Ok x ≡ given t f a → t ≡ true
+given-test true f a x e = refl
+given-test false f a x e = let z : _≡_ {A = ℕ} 0 1 = cc in absurd (omega arith)
+
+pub given-rest : {X F : Type 0} (t : Bool) (f : F) (a : Result X F) (x : X) → Ok x ≡ given t f a → Ok x ≡ a
+given-rest true f a x e = e
+given-rest false f a x e = let z : _≡_ {A = ℕ} 0 1 = cc in absurd (omega arith)

@@ -1,0 +1,4 @@
+pub mod Spelled
+pub mod Entry
+pub mod EntryKinds
+pub mod RoundTrip

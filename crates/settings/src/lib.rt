@@ -1,0 +1,3 @@
+// The settings file: its reader, and what it fills.
+mod reader;
+pub mod settings;

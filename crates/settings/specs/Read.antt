@@ -1,12 +1,14 @@
 -- What reading a settings file answers and leaves.
 use mathlib.Core.Path.{_≡_}
-use mathlib.Core.List.{[]}
+use mathlib.Core.List.{List, []}
+use Prim.Native.Nat.{ℕ}
 use Rattle.std.specs.declared.result.Result.{Result}
 use Rattle.std.specs.declared.result.Result.the-variants.{Ok, Err}
 use Rattle.base.specs.Bounded.{held}
 use Rattle.entries.specs.declared.fault.FileFault.{FileFault}
 use Rattle.entries.specs.Values.{faultOf}
 use Rattle.file_format.specs.Settings as file
+use Rattle.file_format.specs.Spelling.{spell, Lawful}
 use Rattle.tables.specs.declared.table.OpenTable.{OpenTable}
 use Rattle.tables.specs.Tables.{openTasks}
 use Rattle.settings.specs.declared.settings.Settings.{Settings}
@@ -24,3 +26,7 @@ ReadsFile (Ok s) (Ok _) old new models = settingsOf (openTasks new) models ≡ s
 ReadsFile (Ok s) (Err f) old new models = ⊥
 ReadsFile (Err e) (Ok _) old new models = ⊥
 ReadsFile (Err e) (Err f) old new models = (faultOf f ≡ e) × (openTasks new ≡ openTasks old) × Empty models
+
+-- the file is the bytes of lawful settings
+abbrev pub AreBytesOf : List ℕ → file.Settings → Type 0
+AreBytesOf f s = Lawful s × (spell s ≡ f)

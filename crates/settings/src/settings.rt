@@ -1,14 +1,21 @@
 // What a settings file fills besides the table: the models of its tasks, and its questions.
 ghost use mathlib.Core.Path.{_≡_};
-ghost use mathlib.Core.List.{[]};
+ghost use mathlib.Core.Bool.{true};
+ghost use Rattle.std.specs.Results.{isOk};
 ghost use Rattle.base.specs.Bounded.{held};
 ghost use Rattle.file_format.specs.File.{settings};
-ghost use Rattle.settings.specs.Read.{ReadsFile};
+ghost use Rattle.file_format.specs.Settings.{Settings as FileSettings};
+ghost use Rattle.settings.specs.Read.{AreBytesOf, Empty, ReadsFile};
+ghost use Rattle.settings.specs.Values.{settingsOf};
+ghost use Rattle.tables.specs.Tables.{openTasks};
 use crate::reader::Reader;
+use arrival::chained::ChainedModel;
 use base::bounded::BoundedList;
 use entries::fault::FileFault;
 use entries::question::Question;
 use pjd::PjdCurves;
+use pjd::PjdModel;
+use staircase::StaircaseModel;
 use staircase::Staircases;
 use staircase::stairs::Staircase;
 use tables::table::MAX_TASKS;
@@ -29,7 +36,7 @@ pub struct Settings<'a> {
 impl<'a> Settings<'a> {
     // Models without tasks, and no question.
     pub fn new() -> Settings<'a>
-        ensures { λ r. ⌜ (held (r .curves) ≡ []) × (held (r .staircases) ≡ []) × (held (r .questions) ≡ []) ⌝ }
+        ensures { λ r. ⌜ Empty r ⌝ }
     {
         let empty = Staircase::empty();
         Settings {
@@ -37,5 +44,59 @@ impl<'a> Settings<'a> {
             staircases: BoundedList::new(Staircases { typical: empty, overload: empty }),
             questions: BoundedList::new(Question { task: 0, jobs: 0, span: 0 }),
         }
+    }
+
+    // Reads the whole file into the table and these settings, or refuses it with its first fault: the table then stays,
+    // and the models hold no task.
+    pub fn read(&mut self, file: &'a [u8], table: &mut OpenTable) -> Result<(), FileFault>
+        ensures answer { λ r. ⌜ ReadsFile (settings (now (file .entry))) r (now (table .entry)) (now (table .exit)) (now (self .exit)) ⌝ }
+        ensures accepted { λ r. ⌜ (isOk r ≡ true → AreBytesOf (now (file .entry)) (settingsOf (openTasks (now (table .exit))) (now (self .exit)))) ⌝ }
+        ensures spelled { λ r. ⌜ ((s : FileSettings) → AreBytesOf (now (file .entry)) s → (isOk r ≡ true) × (settingsOf (openTasks (now (table .exit))) (now (self .exit)) ≡ s)) ⌝ }
+    {
+        let filler = table.tasks()[0];
+        let mut reader = Reader::new(file, filler);
+        let outcome = reader.run();
+        let (tasks, settings) = reader.parts();
+        match outcome {
+            Ok(()) => {
+                if let Some(filled) = OpenTable::from_list(tasks) {
+                    *table = filled;
+                }
+                *self = settings;
+                Ok(())
+            }
+            Err(f) => {
+                *self = Settings::new();
+                Err(f)
+            }
+        }
+    }
+
+    pub fn questions(&self) -> &[Question]
+        ensures { λ r. ⌜ now r ≡ held (now (self .entry) .questions) ⌝ }
+    {
+        self.questions.as_slice()
+    }
+
+    // The model of the first tasks.
+    pub fn pjd_model(&self) -> PjdModel<'_>
+        ensures { λ r. ⌜ now (r .tasks) ≡ held (now (self .entry) .curves) ⌝ }
+    {
+        PjdModel::new(self.curves.as_slice())
+    }
+
+    // The model of the tasks behind them.
+    pub fn staircase_model(&self) -> StaircaseModel<'_>
+        ensures { λ r. ⌜ now (r .tasks) ≡ held (now (self .entry) .staircases) ⌝ }
+    {
+        StaircaseModel::new(self.staircases.as_slice())
+    }
+
+    // The model of all tasks.
+    pub fn model(&self) -> ChainedModel<PjdModel<'_>, StaircaseModel<'_>>
+        ensures first { λ r. ⌜ now (r .first .tasks) ≡ held (now (self .entry) .curves) ⌝ }
+        ensures second { λ r. ⌜ now (r .second .tasks) ≡ held (now (self .entry) .staircases) ⌝ }
+    {
+        ChainedModel { first: self.pjd_model(), second: self.staircase_model() }
     }
 }

@@ -37,6 +37,6 @@ module _ (a b : Meaning) where
   chain-absent-is-zero q j k w h fits =
       cond-both (ltb j 255) _ _ (λ x. x ≡ 0)
       (λ low. cond-both (ltb j (a .tasks)) _ _ (λ x. x ≡ 0)
-        (λ first. absurd (omega (arith, ltb-true j 255 low, ltb-true j (a .tasks) first)))
-        (λ second. q (j - a .tasks) k w (omega (arith, ltb-true j 255 low, ltb-false j (a .tasks) second)) fits))
+      (λ first. absurd (omega (arith, ltb-true j 255 low, ltb-true j (a .tasks) first)))
+      (λ second. q (j - a .tasks) k w (omega (arith, ltb-true j 255 low, ltb-false j (a .tasks) second)) fits))
       (λ _. refl)

@@ -2,6 +2,7 @@
 ghost use mathlib.Core.Path.{_≡_};
 ghost use denote.Ref.{now};
 ghost use Rattle.arrival.specs.Meaning.{Meaning, ZeroAtZero, Monotone, AtMostLength, FewTasks, AbsentIsZero};
+
 pub mod chained;
 pub mod class;
 pub mod curve;

@@ -22,8 +22,11 @@ use tables::task::Task;
 
 // How many bytes an entry has; a staircase has its points behind its head.
 pub const TASK_SIZE: usize = 8;
+
 pub const CURVES_SIZE: usize = 24;
+
 pub const HEAD_SIZE: usize = 6;
+
 pub const QUESTION_SIZE: usize = 7;
 
 pub fn task_in(bytes: &[u8]) -> Result<Task, Cause>
@@ -61,7 +64,10 @@ pub fn curves_in(bytes: &[u8]) -> Result<PjdCurves, Cause>
 }
 
 // Fills the staircase with the one at the front of `bytes`, and answers its number of bytes; refused, it stays.
-pub fn staircase_in<'a>(staircase: &mut Staircase<'a>, bytes: &'a [u8]) -> Result<usize, StaircaseFault>
+pub fn staircase_in<'a>(
+    staircase: &mut Staircase<'a>,
+    bytes: &'a [u8],
+) -> Result<usize, StaircaseFault>
     ensures { λ r. ⌜ Takes (staircase-entry (now (bytes .entry))) r (now (staircase .entry)) (now (staircase .exit)) ⌝ }
 {
     if bytes.len() < HEAD_SIZE {
@@ -79,5 +85,9 @@ pub fn question_in(bytes: &[u8]) -> Result<Question, Cause>
     if bytes.len() < QUESTION_SIZE {
         return Err(Cause::Missing);
     }
-    Ok(Question { task: bytes[0], jobs: u16_at(bytes, 1), span: u32_at(bytes, 3) })
+    Ok(Question {
+        task: bytes[0],
+        jobs: u16_at(bytes, 1),
+        span: u32_at(bytes, 3),
+    })
 }

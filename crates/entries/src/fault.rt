@@ -29,6 +29,18 @@ pub struct Place {
     pub byte: usize,
 }
 
+impl Place {
+    pub fn new(section: u8, entry: usize, byte: usize) -> Place
+        ensures { λ r. ⌜ r ≡ record { section = section; entry = entry; byte = byte } ⌝ }
+    {
+        Place {
+            section,
+            entry,
+            byte,
+        }
+    }
+}
+
 #[derive(Clone, Copy)]
 pub struct FileFault {
     pub cause: Cause,
@@ -55,7 +67,10 @@ pub impl From<(Cause, Place)> for FileFault as FileFaultFromCause {
     ghost converts = { λ f r. (r .cause ≡ f .0) × (r .place ≡ f .1) };
 
     fn from(f: (Cause, Place)) -> FileFault {
-        FileFault { cause: f.0, place: f.1 }
+        FileFault {
+            cause: f.0,
+            place: f.1,
+        }
     }
 }
 
@@ -63,6 +78,9 @@ pub impl From<(StaircaseFault, Place)> for FileFault as FileFaultFromStaircase {
     ghost converts = { λ f r. (r .cause ≡ InStaircase (f .0)) × (r .place ≡ f .1) };
 
     fn from(f: (StaircaseFault, Place)) -> FileFault {
-        FileFault { cause: Cause::Staircase(f.0), place: f.1 }
+        FileFault {
+            cause: Cause::Staircase(f.0),
+            place: f.1,
+        }
     }
 }

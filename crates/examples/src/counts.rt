@@ -44,13 +44,22 @@ fn repeated_points() -> Result<(), Fail> {
 #[test]
 fn chained_models() -> Result<(), Fail> {
     let curve = PjdCurve::new(10, 15, 2)?;
-    let curves = [PjdCurves { typical: None, overload: Some(curve) }];
+    let curves = [PjdCurves {
+        typical: None,
+        overload: Some(curve),
+    }];
     let mut stairs = Staircase::empty();
     stairs.fill(3, 20, &POINTS[2..])?;
-    let staircases = [Staircases { typical: stairs, overload: Staircase::empty() }];
+    let staircases = [Staircases {
+        typical: stairs,
+        overload: Staircase::empty(),
+    }];
     let first = PjdModel::new(&curves);
     let second = StaircaseModel::new(&staircases);
-    let both = ChainedModel { first: &first, second: &second };
+    let both = ChainedModel {
+        first: &first,
+        second: &second,
+    };
     check_eq(both.tasks(), 2)?;
     check_eq(both.count(0, Class::Typical, 16), 0)?;
     check_eq(both.count(0, Class::Overload, 16), 4)?;

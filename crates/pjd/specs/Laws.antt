@@ -22,8 +22,8 @@ ceil-rises v w d h le =
     ⊎-elim
     (λ less. omega arith)
     (λ more.
-        let same : v / d ≡ w / d = omega arith in
-        omega (arith, div-add-mod' v d, div-add-mod' w d, ap (λ q. q * d) same))
+    let same : v / d ≡ w / d = omega arith in
+    omega (arith, div-add-mod' v d, div-add-mod' w d, ap (λ q. q * d) same))
     (cases-lt (v / d) (w / d))
 
 pub pjd-laws : (c : Pjd) → 1 ≤ c .period → 1 ≤ c .distance → CurveLaws (pjdCount c)

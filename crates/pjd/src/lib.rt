@@ -1,6 +1,7 @@
 // The arrival model by period, jitter and distance.
 use arrival::curve::TaskCurves;
 use arrival::tasks::CurveModel;
+
 pub mod curve;
 
 use curve::PjdCurve;

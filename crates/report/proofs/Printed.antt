@@ -16,10 +16,10 @@ use Rattle.tables.specs.Tables.{openTasks}
 use Rattle.tables.specs.Tasks.{timesOf}
 use Rattle.report.specs.Lines.{tasks-line, refused-line, printed}
 
-pub tasks-printed : (o : Result Settings Fault) (old new : OpenTable) (m : models.Settings) (n : ℕ) (bs : List ℕ) → ReadsFile o (Ok tt) old new m → n ≡ length (openTasks new) → bs ≡ tasks-line n → bs ≡ printed o
-tasks-printed (Ok s) old new m n bs filled e p =
-    p ∙ ap tasks-line (e ∙ sym (length-map (openTasks new) timesOf) ∙ ap (λ s. length (s .tasks)) filled)
-tasks-printed (Err f) old new m n bs filled e p = absurd filled
+pub tasks-printed : (o : Result Settings Fault) (old new : OpenTable) (m : models.Settings) (bs : List ℕ) → ReadsFile o (Ok tt) old new m → bs ≡ tasks-line (length (openTasks new)) → bs ≡ printed o
+tasks-printed (Ok s) old new m bs filled p =
+    p ∙ ap tasks-line (sym (length-map (openTasks new) timesOf) ∙ ap (λ s. length (s .tasks)) filled)
+tasks-printed (Err f) old new m bs filled p = absurd filled
 
 pub refusal-printed : (o : Result Settings Fault) (f : FileFault) (old new : OpenTable) (m : models.Settings) (bs : List ℕ) → ReadsFile o (Err f) old new m → bs ≡ refused-line (faultOf f) → bs ≡ printed o
 refusal-printed (Ok s) f old new m bs told p = absurd told

@@ -1,11 +1,13 @@
 // The bytes that the program prints.
 ghost use mathlib.Core.Path.{_≡_};
+ghost use lib.ListN.{length};
 ghost use Rattle.std.specs.Of.String.{string-bytes};
 ghost use Rattle.std.specs.Vec.{made};
 ghost use Rattle.std.specs.declared.option.Option.the-variants.{Some};
 ghost use Rattle.entries.specs.Values.{faultOf};
 ghost use Rattle.file_format.specs.File.{settings};
-ghost use Rattle.report.specs.Lines.{lineFault, printed, refused-line};
+ghost use Rattle.tables.specs.Tables.{openTasks};
+ghost use Rattle.report.specs.Lines.{lineFault, printed, refused-line, tasks-line};
 use entries::fault::FileFault;
 use settings::settings::Settings;
 use std::alloc::AllocError;
@@ -27,7 +29,12 @@ pub impl From<FileFault> for RefusalLine as RefusalLineFromFault {
     ghost converts = { λ f r. lineFault r ≡ faultOf f };
 
     fn from(f: FileFault) -> RefusalLine {
-        RefusalLine { number: f.cause.number(), section: f.place.section, entry: f.place.entry, byte: f.place.byte }
+        RefusalLine {
+            number: f.cause.number(),
+            section: f.place.section,
+            entry: f.place.entry,
+            byte: f.place.byte,
+        }
     }
 }
 
@@ -39,7 +46,10 @@ pub impl fmt::Display for RefusalLine as RefusalLineDisplay {
         let section = self.section;
         let entry = self.entry;
         let byte = self.byte;
-        write!(f, "refused {number} section {section} entry {entry} byte {byte}\n")
+        write!(
+            f,
+            "refused {number} section {section} entry {entry} byte {byte}\n"
+        )
     }
 }
 
@@ -48,6 +58,13 @@ fn refusal(heap: Global, f: FileFault) -> Result<String, AllocError>
     ensures { λ r. ⌜ made r (λ s. string-bytes s ≡ refused-line (faultOf f)) ⌝ }
 {
     RefusalLine::from(f).to_string(heap)
+}
+
+// The line of an accepted file.
+fn task_count(heap: Global, table: &OpenTable) -> Result<String, AllocError>
+    ensures { λ r. ⌜ made r (λ s. string-bytes s ≡ tasks-line (length (openTasks (now (table .entry))))) ⌝ }
+{
+    format!(heap, "tasks {}\n", table.tasks().len())
 }
 
 // A table for the reader to fill; its one task is replaced.
@@ -65,7 +82,7 @@ pub fn report(heap: Global, file: &[u8]) -> Result<String, AllocError>
     let mut table = blank_table();
     let mut settings = Settings::new();
     match settings.read(file, &mut table) {
-        Ok(()) => format!(heap, "tasks {}\n", table.tasks().len()),
+        Ok(()) => task_count(heap, &table),
         Err(f) => refusal(heap, f),
     }
 }

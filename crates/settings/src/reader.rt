@@ -61,7 +61,7 @@ fn count_at(file: &[u8], at: usize, section: u8) -> Result<u8, FileFault>
     ensures { λ r. ⌜ Opened section at (now (file .entry)) r ⌝ }
 {
     if at >= file.len() {
-        return Err(FileFault::from((Cause::Missing, Place { section, entry: 0, byte: at })));
+        return Err(FileFault::from((Cause::Missing, Place::new(section, 0, at))));
     }
     Ok(file[at])
 }
@@ -71,17 +71,21 @@ impl<'a> Reader<'a> {
     pub(crate) fn new(file: &'a [u8], filler: Task) -> Reader<'a>
         ensures { λ r. ⌜ Ready r × (go r ≡ settings (now (file .entry))) ⌝ }
     {
-        let empty = Staircase::empty();
+        let Settings {
+            curves,
+            staircases,
+            questions,
+        } = Settings::new();
         Reader {
             file,
             at: 0,
             section: Section::Start,
             due: 0,
             tasks: BoundedList::new(filler),
-            typical: empty,
-            curves: BoundedList::new(PjdCurves { typical: None, overload: None }),
-            staircases: BoundedList::new(Staircases { typical: empty, overload: empty }),
-            questions: BoundedList::new(Question { task: 0, jobs: 0, span: 0 }),
+            typical: Staircase::empty(),
+            curves,
+            staircases,
+            questions,
         }
     }
 
@@ -89,8 +93,25 @@ impl<'a> Reader<'a> {
     pub(crate) fn parts(self) -> (BoundedList<Task, MAX_TASKS>, Settings<'a>)
         ensures { λ r. ⌜ (r .0 ≡ self .entry .tasks) × (r .1 .curves ≡ self .entry .curves) × (r .1 .staircases ≡ self .entry .staircases) × (r .1 .questions ≡ self .entry .questions) ⌝ }
     {
-        let Reader { file: _, at: _, section: _, due: _, tasks, typical: _, curves, staircases, questions } = self;
-        (tasks, Settings { curves, staircases, questions })
+        let Reader {
+            file: _,
+            at: _,
+            section: _,
+            due: _,
+            tasks,
+            typical: _,
+            curves,
+            staircases,
+            questions,
+        } = self;
+        (
+            tasks,
+            Settings {
+                curves,
+                staircases,
+                questions,
+            },
+        )
     }
 
     // Reads on to the end of the file, or to its first fault.
@@ -130,7 +151,7 @@ impl<'a> Reader<'a> {
     {
         let n = count_at(self.file, self.at, 1)?;
         if n < 1 || n as usize > MAX_TASKS {
-            return Err(FileFault::from((Cause::TaskCount, Place { section: 1, entry: 0, byte: self.at })));
+            return Err(FileFault::from((Cause::TaskCount, Place::new(1, 0, self.at))));
         }
         self.at += 1;
         self.due = n;
@@ -153,7 +174,7 @@ impl<'a> Reader<'a> {
             }
             Err(cause) => {
                 let entry = self.tasks.len() + 1;
-                Err(FileFault::from((cause, Place { section: 1, entry, byte: at })))
+                Err(FileFault::from((cause, Place::new(1, entry, at))))
             }
         }
     }
@@ -164,7 +185,7 @@ impl<'a> Reader<'a> {
     {
         let n = count_at(self.file, self.at, 2)?;
         if n as usize > self.tasks.len() {
-            return Err(FileFault::from((Cause::CurveCount, Place { section: 2, entry: 0, byte: self.at })));
+            return Err(FileFault::from((Cause::CurveCount, Place::new(2, 0, self.at))));
         }
         self.at += 1;
         self.due = n;
@@ -187,7 +208,7 @@ impl<'a> Reader<'a> {
             }
             Err(cause) => {
                 let entry = self.curves.len() + 1;
-                Err(FileFault::from((cause, Place { section: 2, entry, byte: at })))
+                Err(FileFault::from((cause, Place::new(2, entry, at))))
             }
         }
     }
@@ -198,7 +219,7 @@ impl<'a> Reader<'a> {
     {
         let n = count_at(self.file, self.at, 3)?;
         if self.curves.len() + n as usize != self.tasks.len() {
-            return Err(FileFault::from((Cause::StaircaseCount, Place { section: 3, entry: 0, byte: self.at })));
+            return Err(FileFault::from((Cause::StaircaseCount, Place::new(3, 0, self.at))));
         }
         self.at += 1;
         self.due = n;
@@ -220,7 +241,7 @@ impl<'a> Reader<'a> {
             }
             Err(f) => {
                 let entry = 2 * self.staircases.len() + 1;
-                Err(FileFault::from((f, Place { section: 3, entry, byte: at })))
+                Err(FileFault::from((f, Place::new(3, entry, at))))
             }
         }
     }
@@ -243,7 +264,7 @@ impl<'a> Reader<'a> {
             }
             Err(f) => {
                 let entry = 2 * self.staircases.len() + 2;
-                Err(FileFault::from((f, Place { section: 3, entry, byte: at })))
+                Err(FileFault::from((f, Place::new(3, entry, at))))
             }
         }
     }
@@ -254,7 +275,7 @@ impl<'a> Reader<'a> {
     {
         let n = count_at(self.file, self.at, 4)?;
         if n as usize > MAX_QUESTIONS {
-            return Err(FileFault::from((Cause::QuestionCount, Place { section: 4, entry: 0, byte: self.at })));
+            return Err(FileFault::from((Cause::QuestionCount, Place::new(4, 0, self.at))));
         }
         self.at += 1;
         self.due = n;
@@ -277,7 +298,7 @@ impl<'a> Reader<'a> {
             }
             Err(cause) => {
                 let entry = self.questions.len() + 1;
-                Err(FileFault::from((cause, Place { section: 4, entry, byte: at })))
+                Err(FileFault::from((cause, Place::new(4, entry, at))))
             }
         }
     }
@@ -288,7 +309,7 @@ impl<'a> Reader<'a> {
         ensures { λ r. ⌜ Stepped (now (self .entry)) (now (self .exit)) r ⌝ }
     {
         if self.at != self.file.len() {
-            return Err(FileFault::from((Cause::Trailing, Place { section: 5, entry: 0, byte: self.at })));
+            return Err(FileFault::from((Cause::Trailing, Place::new(5, 0, self.at))));
         }
         self.section = Section::End;
         Ok(())

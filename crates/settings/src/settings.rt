@@ -1,6 +1,8 @@
 // What a settings file fills besides the table: the models of its tasks, and its questions.
 ghost use mathlib.Core.Path.{_≡_};
 ghost use mathlib.Core.Bool.{true};
+ghost use Prim.Native.Nat.{_≤_};
+ghost use lib.ListN.{length};
 ghost use Rattle.std.specs.Results.{isOk};
 ghost use Rattle.base.specs.Bounded.{held};
 ghost use Rattle.file_format.specs.File.{settings};
@@ -20,6 +22,7 @@ use staircase::Staircases;
 use staircase::stairs::Staircase;
 use tables::table::MAX_TASKS;
 use tables::table::OpenTable;
+use tables::task::Task;
 
 // How many questions a file has at most.
 pub const MAX_QUESTIONS: usize = 16;
@@ -33,17 +36,47 @@ pub struct Settings<'a> {
     pub(crate) questions: BoundedList<Question, MAX_QUESTIONS>,
 }
 
+// The table holds these tasks in place of its own.
+fn refill(table: &mut OpenTable, tasks: BoundedList<Task, MAX_TASKS>)
+    requires { ⌜ 1 ≤ length (held tasks) ⌝ }
+    ensures { λ _. ⌜ openTasks (now (table .exit)) ≡ held tasks ⌝ }
+{
+    if let Some(filled) = OpenTable::from_list(tasks) {
+        *table = filled;
+    }
+}
+
 impl<'a> Settings<'a> {
     // Models without tasks, and no question.
     pub fn new() -> Settings<'a>
         ensures { λ r. ⌜ Empty r ⌝ }
     {
+        let curves = PjdCurves {
+            typical: None,
+            overload: None,
+        };
         let empty = Staircase::empty();
+        let staircases = Staircases {
+            typical: empty,
+            overload: empty,
+        };
+        let question = Question {
+            task: 0,
+            jobs: 0,
+            span: 0,
+        };
         Settings {
-            curves: BoundedList::new(PjdCurves { typical: None, overload: None }),
-            staircases: BoundedList::new(Staircases { typical: empty, overload: empty }),
-            questions: BoundedList::new(Question { task: 0, jobs: 0, span: 0 }),
+            curves: BoundedList::new(curves),
+            staircases: BoundedList::new(staircases),
+            questions: BoundedList::new(question),
         }
+    }
+
+    // Holds no task and no question any more.
+    fn clear(&mut self)
+        ensures { λ _. ⌜ Empty (now (self .exit)) ⌝ }
+    {
+        *self = Settings::new();
     }
 
     // Reads the whole file into the table and these settings, or refuses it with its first fault: the table then stays,
@@ -59,14 +92,12 @@ impl<'a> Settings<'a> {
         let (tasks, settings) = reader.parts();
         match outcome {
             Ok(()) => {
-                if let Some(filled) = OpenTable::from_list(tasks) {
-                    *table = filled;
-                }
+                refill(table, tasks);
                 *self = settings;
                 Ok(())
             }
             Err(f) => {
-                *self = Settings::new();
+                self.clear();
                 Err(f)
             }
         }
@@ -97,6 +128,9 @@ impl<'a> Settings<'a> {
         ensures first { λ r. ⌜ now (r .first .tasks) ≡ held (now (self .entry) .curves) ⌝ }
         ensures second { λ r. ⌜ now (r .second .tasks) ≡ held (now (self .entry) .staircases) ⌝ }
     {
-        ChainedModel { first: self.pjd_model(), second: self.staircase_model() }
+        ChainedModel {
+            first: self.pjd_model(),
+            second: self.staircase_model(),
+        }
     }
 }

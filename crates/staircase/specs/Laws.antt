@@ -80,13 +80,13 @@ module _ (s : Stairs) (ok : points-ok (s .repeat) (s .points) ≡ true) where
       let whole : v / t ≤ w / t = le-div (v / t) w t some (omega (arith, div-mul-le-self v t)) in
       ⊎-elim
       (λ less.
-          let next : length ps * (v / t + 1) ≤ length ps * (w / t) = mul-le (length ps) (v / t + 1) (length ps) (w / t) (omega arith) (omega arith) in
-          omega (arith, countBy-le-length (λ p. leb p (v % t)) ps))
+      let next : length ps * (v / t + 1) ≤ length ps * (w / t) = mul-le (length ps) (v / t + 1) (length ps) (w / t) (omega arith) (omega arith) in
+      omega (arith, countBy-le-length (λ p. leb p (v % t)) ps))
       (λ more.
-          let same : v / t ≡ w / t = omega arith in
-          let quotients = ap (λ q. q * t) same in
-          let fronts = ap (λ q. length ps * q) same in
-          omega (arith, upTo-rises (v % t) (w % t) ps (omega (arith, div-add-mod' v t, div-add-mod' w t))))
+      let same : v / t ≡ w / t = omega arith in
+      let quotients = ap (λ q. q * t) same in
+      let fronts = ap (λ q. length ps * q) same in
+      omega (arith, upTo-rises (v % t) (w % t) ps (omega (arith, div-add-mod' v t, div-add-mod' w t))))
       (cases-lt (v / t) (w / t))
 
   -- no point at all: nothing is counted

@@ -1,6 +1,7 @@
 // The arrival model by staircases whose points are read where they lie.
 use arrival::curve::TaskCurves;
 use arrival::tasks::CurveModel;
+
 pub mod stairs;
 
 use stairs::Staircase;

@@ -14,7 +14,10 @@ impl<T: Copy, const N: usize> BoundedList<T, N> {
     pub fn new(filler: T) -> BoundedList<T, N>
         ensures { λ r. ⌜ held r ≡ [] ⌝ }
     {
-        BoundedList { items: [filler; N], len: 0 }
+        BoundedList {
+            items: [filler; N],
+            len: 0,
+        }
     }
 
     pub fn len(&self) -> usize
@@ -55,7 +58,11 @@ impl<T: Copy, const N: usize> BoundedList<T, N> {
     pub fn get(&self, i: usize) -> Option<T>
         ensures { λ r. ⌜ r ≡ nth (held (now (self .entry))) i ⌝ }
     {
-        if i < self.len { Some(self.items[i]) } else { None }
+        if i < self.len {
+            Some(self.items[i])
+        } else {
+            None
+        }
     }
 
     pub fn as_slice(&self) -> &[T]

@@ -12,10 +12,19 @@ impl PjdCurve {
     pub fn new(period: u32, jitter: u32, distance: u32) -> Result<PjdCurve, CurveFault>
         ensures { λ r. ⌜ in-numbers numbersOf faultNumber r ≡ pjd period jitter distance ⌝ }
     {
-        if period < 1 || period > 1_000_000 || jitter > 10_000_000 || distance < 1 || distance > period {
+        if period < 1
+            || period > 1_000_000
+            || jitter > 10_000_000
+            || distance < 1
+            || distance > period
+        {
             return Err(CurveFault::OutOfRange);
         }
-        Ok(PjdCurve { period, jitter, distance })
+        Ok(PjdCurve {
+            period,
+            jitter,
+            distance,
+        })
     }
 }
 

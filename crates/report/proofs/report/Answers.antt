@@ -1,12 +1,10 @@
-use mathlib.Core.Path.{ap}
-use lib.ListN.{length}
 use Rattle.std.proofs.shelf.Results.{made-weaker}
 use Rattle.report.proofs.Printed.{tasks-printed, refusal-printed}
 use Rattle.report.proofs.report.Needs as need
 
 pub returns-in-Ok : need.returns-in-Ok
 returns-in-Ok c =
-    made-weaker (c .format .result) _ _ (λ s p. tasks-printed _ _ _ _ _ _ (c .in-Ok .ensures tt .answer) (ap length (c .tasks .ensures .value)) p) (c .format .ensures .made)
+    made-weaker (c .task-count .result) _ _ (λ s p. tasks-printed _ _ _ _ _ (c .in-Ok .ensures tt .answer) p) (c .task-count .ensures)
 
 pub returns-in-Err : need.returns-in-Err
 returns-in-Err c =

@@ -14,6 +14,7 @@ use super::StaircaseFault;
 use arrival::curve::ArrivalCurve;
 
 const MAX_POINTS: u16 = 64;
+
 const MAX_REPEAT: u32 = 1_000_000;
 
 // Point number i of those that lie in `bytes`.
@@ -59,7 +60,11 @@ impl<'a> Staircase<'a> {
     pub fn empty() -> Staircase<'a>
         ensures { λ r. ⌜ stairsOf r ≡ record { repeat = 0; points = [] } ⌝ }
     {
-        Staircase { bytes: &[], n: 0, repeat: 0 }
+        Staircase {
+            bytes: &[],
+            n: 0,
+            repeat: 0,
+        }
     }
 
     // Becomes the staircase of n points at the front of `bytes`; refused, it stays.

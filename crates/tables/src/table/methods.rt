@@ -38,14 +38,22 @@ impl OpenTable {
     pub fn add(&mut self, task: Task) -> Result<(), TableFault>
         ensures { λ r. ⌜ Becomes openTasks faultNumber (added task (openTasks (now (self .entry)))) r (now (self .entry)) (now (self .exit)) ⌝ }
     {
-        if self.tasks.push(task) { Ok(()) } else { Err(TableFault::Full) }
+        if self.tasks.push(task) {
+            Ok(())
+        } else {
+            Err(TableFault::Full)
+        }
     }
 
     // Another task at position i.
     pub fn replace(&mut self, i: u8, task: Task) -> Result<(), TableFault>
         ensures { λ r. ⌜ Becomes openTasks faultNumber (replaced i task (openTasks (now (self .entry)))) r (now (self .entry)) (now (self .exit)) ⌝ }
     {
-        if self.tasks.set(i as usize, task) { Ok(()) } else { Err(TableFault::NoSuchTask) }
+        if self.tasks.set(i as usize, task) {
+            Ok(())
+        } else {
+            Err(TableFault::NoSuchTask)
+        }
     }
 
     pub fn tasks(&self) -> &[Task]

@@ -7,6 +7,7 @@ use super::Task;
 use super::TaskFault;
 
 const MAX_WCET: u32 = 100_000;
+
 const MAX_DEADLINE: u32 = 1_000_000;
 
 impl Task {

@@ -21,7 +21,7 @@ returns-then-self c =
     let r = c .args .self .now in
     fails r Questions (c .pre .1) (c .from .result) _
     (ended r (c .pre .2) ∙ cond-false _ _ _ (ne-eqb (length (r .file .now)) (r .at) (λ e. c .if-self .taken (sym e))))
-    (fault-is (c .from .result) cause.Trailing _ (c .from .ensures .0) (c .from .ensures .1))
+    (fault-is (c .from .result) cause.Trailing _ (c .from .ensures .0) (c .from .ensures .1 ∙ c .new .ensures))
 
 pub returns : need.returns
 returns c =

@@ -40,7 +40,7 @@ returns-then-n-len c =
     let r = c .args .self .now in
     open-refuses r Tasks (c .pre .1) 2 14 (ok r) (next r) (ended r (c .pre .2)) (c .in-Continue-n .n) (c .in-Continue-n .ensures tt) (c .from .result)
     (lt-leb _ _ (omega (arith, c .if-n-len .taken, c .len .ensures .value, length-map (held (r .tasks)) timesOf)))
-    (fault-is (c .from .result) cause.CurveCount _ (c .from .ensures .0) (c .from .ensures .1))
+    (fault-is (c .from .result) cause.CurveCount _ (c .from .ensures .0) (c .from .ensures .1 ∙ c .new .ensures))
 
 pub returns : need.returns
 returns c =

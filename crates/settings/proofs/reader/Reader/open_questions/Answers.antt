@@ -41,7 +41,7 @@ returns-then-n-gt-MAX-QUESTIONS c =
     let r = c .args .self .now in
     open-refuses r Typical (c .pre .1) 4 19 ok (next r) (ended r (c .pre .2)) (c .in-Continue-n .n) (c .in-Continue-n .ensures tt) (c .from .result)
     (lt-leb _ _ (c .if-n-gt-MAX-QUESTIONS .taken))
-    (fault-is (c .from .result) cause.QuestionCount _ (c .from .ensures .0) (c .from .ensures .1))
+    (fault-is (c .from .result) cause.QuestionCount _ (c .from .ensures .0) (c .from .ensures .1 ∙ c .new .ensures))
 
 pub returns : need.returns
 returns c =

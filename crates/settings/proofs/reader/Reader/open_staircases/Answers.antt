@@ -46,7 +46,7 @@ returns-then-len-n c =
     let tasks = length-map (held (r .tasks)) timesOf in
     open-refuses r Curves (c .pre .1) 3 16 (ok r) (next r) (ended r (c .pre .2)) (c .in-Continue-n .n) (c .in-Continue-n .ensures tt) (c .from .result)
     (ne-eqb _ _ (λ same. c .if-len-n .taken (omega (arith, same, c .len .ensures .value, c .len-2 .ensures .value))))
-    (fault-is (c .from .result) cause.StaircaseCount _ (c .from .ensures .0) (c .from .ensures .1))
+    (fault-is (c .from .result) cause.StaircaseCount _ (c .from .ensures .0) (c .from .ensures .1 ∙ c .new .ensures))
 
 pub returns : need.returns
 returns c =

@@ -1,4 +1,4 @@
-use mathlib.Core.Path.{refl}
+use mathlib.Core.Path.{refl, _∙_}
 use native.Mathlib.Omega.{arith}
 use Rattle.base.proofs.Held.{held-push}
 use Rattle.entries.specs.Values.{curvesOf}
@@ -22,4 +22,4 @@ returns-in-Ok c =
 pub returns-in-Err : need.returns-in-Err
 returns-in-Err c =
     let r = c .args .self .now in
-    push-fails r Curves (c .pre .1) curvesOf (r .curves) curves-entry 2 (r .due) (behind-curves (r .file .now) (so-far r .tasks)) refl (c .pre .2) (c .from .result) (c .in-Err .cause) _ (c .len-entry .ensures .value) (c .in-Err .ensures tt) (c .from .ensures .0) (c .from .ensures .1)
+    push-fails r Curves (c .pre .1) curvesOf (r .curves) curves-entry 2 (r .due) (behind-curves (r .file .now) (so-far r .tasks)) refl (c .pre .2) (c .from .result) (c .in-Err .cause) _ (c .len-entry .ensures .value) (c .in-Err .ensures tt) (c .from .ensures .0) (c .from .ensures .1 ∙ c .new .ensures)

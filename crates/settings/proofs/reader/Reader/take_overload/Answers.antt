@@ -45,5 +45,5 @@ returns-in-Err c =
     let room = room-in r Overload (c .pre .0) (c .pre .1) in
     let some : 0 < 2 * r .due - 1 = omega (arith, room .3) in
     take-fails r Overload (c .pre .1) staircase-entry 3 (so-far r .staircases ++ stairsOf (r .typical) ∷ []) (2 * r .due - 1) (behind-staircases (r .file .now) (so-far r .tasks) (so-far r .curves)) refl some
-    (c .from .result) (cause.Staircase (c .in-Err .f)) _ (takes-err _ (c .in-Err .f) _ _ (c .in-Err .ensures tt)) (c .from .ensures .0) (c .from .ensures .1)
+    (c .from .result) (cause.Staircase (c .in-Err .f)) _ (takes-err _ (c .in-Err .f) _ _ (c .in-Err .ensures tt)) (c .from .ensures .0) (c .from .ensures .1 ∙ c .new .ensures)
     (omega (arith, c .len .ensures .value, length-two (held (r .staircases)), length-push (so-far r .staircases) (stairsOf (r .typical))))

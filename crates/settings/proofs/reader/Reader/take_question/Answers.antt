@@ -1,4 +1,4 @@
-use mathlib.Core.Path.{refl}
+use mathlib.Core.Path.{refl, _∙_}
 use native.Mathlib.Omega.{arith}
 use Rattle.base.proofs.Held.{held-push}
 use Rattle.entries.specs.Values.{questionOf}
@@ -22,4 +22,4 @@ returns-in-Ok c =
 pub returns-in-Err : need.returns-in-Err
 returns-in-Err c =
     let r = c .args .self .now in
-    push-fails r Questions (c .pre .1) questionOf (r .questions) question-entry 4 (r .due) (behind-questions (r .file .now) (so-far r .tasks) (so-far r .curves) (so-far r .staircases)) refl (c .pre .2) (c .from .result) (c .in-Err .cause) _ (c .len-entry .ensures .value) (c .in-Err .ensures tt) (c .from .ensures .0) (c .from .ensures .1)
+    push-fails r Questions (c .pre .1) questionOf (r .questions) question-entry 4 (r .due) (behind-questions (r .file .now) (so-far r .tasks) (so-far r .curves) (so-far r .staircases)) refl (c .pre .2) (c .from .result) (c .in-Err .cause) _ (c .len-entry .ensures .value) (c .in-Err .ensures tt) (c .from .ensures .0) (c .from .ensures .1 ∙ c .new .ensures)

@@ -1,4 +1,4 @@
-use mathlib.Core.Path.{_≡_, refl}
+use mathlib.Core.Path.{_≡_, refl, _∙_}
 use Prim.Native.Nat.{suc, _-_, _*_, _<_}
 use native.Mathlib.Omega.{arith}
 use Rattle.base.specs.Bounded.{held}
@@ -28,5 +28,5 @@ returns-in-Err c =
     let r = c .args .self .now in
     let some : 0 < 2 * r .due = omega (arith, c .pre .2) in
     take-fails r Typical (c .pre .1) staircase-entry 3 (so-far r .staircases) (2 * r .due) (behind-staircases (r .file .now) (so-far r .tasks) (so-far r .curves)) refl some
-    (c .from .result) (cause.Staircase (c .in-Err .f)) _ (takes-err _ (c .in-Err .f) _ _ (c .in-Err .ensures tt)) (c .from .ensures .0) (c .from .ensures .1)
+    (c .from .result) (cause.Staircase (c .in-Err .f)) _ (takes-err _ (c .in-Err .f) _ _ (c .in-Err .ensures tt)) (c .from .ensures .0) (c .from .ensures .1 ∙ c .new .ensures)
     (omega (arith, c .len .ensures .value, length-two (held (r .staircases))))

@@ -14,19 +14,22 @@ module _ {S X E F : Type 0} (value : S → X) (fault : E → F) (o : Result X F)
   pub becomes-err : (f : E) (old : S) → o ≡ Err (fault f) → Becomes value fault o (Err f) old old
   becomes-err f old e = subst (λ o. Becomes value fault o (Err f) old old) (sym e) (refl, refl)
 
--- what an answer behind a test tells of the test
-pub given-ok : {X F : Type 0} (t : Bool) (f : F) (x y : X) → Ok x ≡ given t f (Ok y) → (t ≡ true) × (x ≡ y)
-given-ok true f x y e = (refl, cc)
-given-ok false f x y e = let z : _≡_ {A = ℕ} 0 1 = cc in absurd (omega arith)
+-- an answer is accepted or refused, and its value is one
+pub same-ok : {X F : Type 0} (x y : X) → _≡_ {A = Result X F} (Ok x) (Ok y) → x ≡ y
+same-ok x y h = cc
 
-pub given-err : {X F : Type 0} (t : Bool) (f e : F) (x : X) → Err e ≡ given t f (Ok x) → (t ≡ false) × (e ≡ f)
-given-err true f e x h = let z : _≡_ {A = ℕ} 0 1 = cc in absurd (omega arith)
+pub no-ok : {X F : Type 0} (f : F) (x : X) → _≡_ {A = Result X F} (Err f) (Ok x) → ⊥
+no-ok f x h = let z : _≡_ {A = ℕ} 0 1 = cc in omega arith
+
+-- an answer behind a test: the test was passed
+pub given-ok : {X F : Type 0} (t : Bool) (f : F) (a : Result X F) (x : X) → given t f a ≡ Ok x → (t ≡ true) × (a ≡ Ok x)
+given-ok true f a x h = (refl, h)
+given-ok false f a x h = absurd (no-ok f x h)
+
+pub given-value : {X F : Type 0} (t : Bool) (f : F) (x y : X) → given t f (Ok x) ≡ Ok y → (t ≡ true) × (x ≡ y)
+given-value t f x y h = let passed = given-ok t f (Ok x) y h in (passed .0, same-ok x y (passed .1))
+
+-- a refusal behind a test: the test failed
+pub given-err : {X F : Type 0} (t : Bool) (f e : F) (x : X) → given t f (Ok x) ≡ Err e → (t ≡ false) × (f ≡ e)
+given-err true f e x h = absurd (no-ok e x (sym h))
 given-err false f e x h = (refl, cc)
-
-pub given-test : {X F : Type 0} (t : Bool) (f : F) (a : Result X F) (x : X) → Ok x ≡ given t f a → t ≡ true
-given-test true f a x e = refl
-given-test false f a x e = let z : _≡_ {A = ℕ} 0 1 = cc in absurd (omega arith)
-
-pub given-rest : {X F : Type 0} (t : Bool) (f : F) (a : Result X F) (x : X) → Ok x ≡ given t f a → Ok x ≡ a
-given-rest true f a x e = e
-given-rest false f a x e = let z : _≡_ {A = ℕ} 0 1 = cc in absurd (omega arith)

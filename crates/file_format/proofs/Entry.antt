@@ -16,22 +16,13 @@ use Rattle.std.proofs.shelf.Elements.{all-drop}
 use Rattle.std.proofs.shelf.Tests.{cond-true, le-leb, leb-true}
 use Rattle.base.specs.Faults.{given}
 use Rattle.base.specs.Numbers.{number, spelled}
+use Rattle.base.proofs.Faults.{same-ok, no-ok, given-ok}
 use Rattle.file_format.specs.Settings.{Fault}
 use Rattle.file_format.specs.Entries.{Front, sized}
 use Rattle.file_format.specs.File.{Read, after, placed, entries, count, fault}
 use Rattle.file_format.proofs.Spelled.{Bytes, behind, fits, number-here, here-number, number-below, length-spelled}
 
-pub same-ok : {X F : Type 0} (x y : X) → _≡_ {A = Result X F} (Ok x) (Ok y) → x ≡ y
-same-ok x y h = cc
-
-no-ok : {X F : Type 0} (f : F) (x : X) → _≡_ {A = Result X F} (Err f) (Ok x) → ⊥
-no-ok f x h = let z : _≡_ {A = ℕ} 0 1 = cc in omega arith
-
--- an answer behind a test: the test was passed
-pub given-ok : {X F : Type 0} (t : Bool) (f : F) (a : Result X F) (x : X) → given t f a ≡ Ok x → (t ≡ true) × (a ≡ Ok x)
-given-ok true f a x h = (refl, h)
-given-ok false f a x h = absurd (no-ok f x h)
-
+-- a value of a size behind a test: the test was passed
 pub sized-ok : {X : Type 0} (size : ℕ) (t : Bool) (f : ℕ) (a : Result X ℕ) (x : X × ℕ) → sized size (given t f a) ≡ Ok x → (t ≡ true) × (sized size a ≡ Ok x)
 sized-ok size true f a x h = (refl, h)
 sized-ok size false f a x h = absurd (no-ok f x h)

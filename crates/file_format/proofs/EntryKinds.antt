@@ -16,6 +16,7 @@ use Rattle.std.proofs.shelf.Elements.{all-drop, all-weaker}
 use Rattle.std.proofs.shelf.Ways.{tells}
 use Rattle.base.specs.Faults.{given}
 use Rattle.base.specs.Numbers.{number, spelled}
+use Rattle.base.proofs.Faults.{same-ok, given-ok}
 use Rattle.pjd.specs.Curves.{Pjd}
 use Rattle.staircase.specs.Stairs.{Stairs, points, head-ok, rises, points-ok, stairs}
 use Rattle.staircase.specs.Laws.{length-points, rises-from-ok}
@@ -24,7 +25,7 @@ use Rattle.file_format.specs.Settings.{Curves, Question}
 use Rattle.file_format.specs.Entries.{Front, sized, task-entry, curve-at, curve-ok, curves-entry, staircase-entry, question-entry}
 use Rattle.file_format.specs.Spelling.{spell-task, spell-curve, spell-curves, spell-staircase, spell-question}
 use Rattle.file_format.proofs.Spelled.{Bytes, behind, number-here, here-number, number-below}
-use Rattle.file_format.proofs.Entry.{Backs, same-ok, given-ok, sized-ok}
+use Rattle.file_format.proofs.Entry.{Backs, sized-ok}
 
 abbrev pub GoodTask : Times → Type 0
 GoodTask t = task-ok t ≡ true

@@ -12,11 +12,12 @@ use Rattle.std.specs.declared.result.Result.the-variants.{Ok}
 use Rattle.std.proofs.shelf.Lists.{append-nil, drop-all}
 use Rattle.std.proofs.shelf.Tests.{cond-true, le-leb, leb-true, eqb-true, eq-eqb, and-parts, and-from}
 use Rattle.base.specs.Numbers.{spelled}
+use Rattle.base.proofs.Faults.{same-ok, given-ok}
 use Rattle.file_format.specs.Settings.{Settings, Fault}
 use Rattle.file_format.specs.File.{Read, after, fault, settings}
 use Rattle.file_format.specs.Spelling.{spell, spell-question, Lawful, ReadsBack, SpellsBack}
 use Rattle.file_format.proofs.Spelled.{Bytes, behind}
-use Rattle.file_format.proofs.Entry.{BacksAt, same-ok, given-ok, after-ok, section-backs, count-backs}
+use Rattle.file_format.proofs.Entry.{BacksAt, after-ok, section-backs, count-backs}
 use Rattle.file_format.proofs.EntryKinds.{task-backs, curves-backs, staircase-backs, question-backs}
 
 -- the file ends with these bytes, from byte b on

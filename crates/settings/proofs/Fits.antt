@@ -13,30 +13,31 @@ use Rattle.std.specs.declared.result.Result.{Result}
 use Rattle.std.specs.declared.result.Result.the-variants.{Ok, Err}
 use Rattle.base.specs.Faults.{given}
 use Rattle.base.specs.Numbers.{number}
-use Rattle.base.proofs.Faults.{given-test, given-rest}
+use Rattle.base.proofs.Faults.{same-ok, given-ok}
 use Rattle.entries.specs.Values.{Takes}
 use Rattle.file_format.specs.Entries.{Front, sized, staircase-entry}
+use Rattle.file_format.proofs.Entry.{sized-ok}
 use Rattle.staircase.specs.declared.stairs.Staircase.{Staircase}
 use Rattle.staircase.specs.declared.stairs.StaircaseFault.{StaircaseFault}
-use Rattle.staircase.specs.Stairs.{Stairs, stairs}
+use Rattle.staircase.specs.Stairs.{Stairs, head-ok, points, points-ok, stairs}
 use Rattle.staircase.specs.Values.{stairsOf, faultNumber}
 use Rattle.settings.specs.Values.{twoOf}
 
 -- an entry that begins with a test of its length
 pub fits : {X : Type 0} (size : ℕ) (bs : List ℕ) (a : Front X) (x : X × ℕ) → Ok x ≡ given (leb size (length bs)) 11 a → size ≤ length bs
-fits size bs a x e = leb-true size (length bs) (given-test _ 11 a x e)
-
-sized-ok : {X : Type 0} (size : ℕ) (o : Result X ℕ) (x : X) (found : ℕ) → Ok (x, found) ≡ sized size o → (Ok x ≡ o) × (found ≡ size)
-sized-ok size (Ok y) x found e = let same : _≡_ {A = _ × ℕ} (x, found) (y, size) = cc in (ap (λ p. Ok (p .0)) same, ap (λ p. p .1) same)
-sized-ok size (Err f) x found e = let z : _≡_ {A = ℕ} 0 1 = cc in absurd (omega arith)
+fits size bs a x e = leb-true size (length bs) (given-ok _ 11 a x (sym e) .0)
 
 pub staircase-fits : (bs : List ℕ) (s : Stairs) (size : ℕ) → Ok (s, size) ≡ staircase-entry bs → size ≤ length bs
 staircase-fits bs s size e =
     let n = number 2 0 bs in
-    let head = fits 6 bs (sized (6 + 4 * n) (stairs n (number 4 2 bs) (drop 6 bs))) (s, size) e in
-    let made = sized-ok (6 + 4 * n) (stairs n (number 4 2 bs) (drop 6 bs)) s size (given-rest _ _ _ _ e) in
-    let long = leb-true (4 * n) (length (drop 6 bs)) (given-test _ _ _ _ (given-rest _ _ _ _ (made .0))) in
-    omega (arith, made .1, length-drop 6 bs)
+    let repeat = number 4 2 bs in
+    let made : Stairs = record { repeat = repeat; points = points n (drop 6 bs) } in
+    let there = given-ok (leb 6 (length bs)) 11 (sized (6 + 4 * n) (stairs n repeat (drop 6 bs))) (s, size) (sym e) in
+    let head = sized-ok (6 + 4 * n) (head-ok n repeat) 17 _ (s, size) (there .1) in
+    let long = sized-ok (6 + 4 * n) (leb (4 * n) (length (drop 6 bs))) 11 _ (s, size) (head .1) in
+    let rising = sized-ok (6 + 4 * n) (points-ok repeat (points n (drop 6 bs))) 18 (Ok made) (s, size) (long .1) in
+    let same : 6 + 4 * n ≡ size = ap (λ p. p .1) (same-ok (made, 6 + 4 * n) (s, size) (rising .1)) in
+    omega (arith, leb-true 6 (length bs) (there .0), leb-true (4 * n) (length (drop 6 bs)) (long .0), length-drop 6 bs)
 
 -- what was taken is what stands there
 pub takes-ok : (o : Front Stairs) (size : ℕ) (old new : Staircase) → Takes o (Ok size) old new → Ok (stairsOf new, size) ≡ o

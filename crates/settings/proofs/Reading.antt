@@ -3,13 +3,12 @@ use mathlib.Core.Path.{_≡_, refl, sym, ap, subst, _∙_}
 use mathlib.Core.Bool.{true, false}
 use mathlib.Core.List.{List}
 use Prim.Native.Nat.{ℕ, _<_}
-use native.Mathlib.Omega.{arith}
 use Rattle.std.specs.Results.{isOk}
 use Rattle.std.specs.shelf.Lists.{All}
 use Rattle.std.specs.declared.result.Result.{Result}
 use Rattle.std.specs.declared.result.Result.the-variants.{Ok, Err}
 use Rattle.std.proofs.shelf.Tests.{false≢true}
-use Rattle.base.specs.Bounded.{held}
+use Rattle.base.proofs.Faults.{same-ok, no-ok}
 use Rattle.entries.specs.declared.fault.FileFault.{FileFault}
 use Rattle.entries.specs.Values.{faultOf}
 use Rattle.file_format.specs.File.{settings}
@@ -20,12 +19,6 @@ use Rattle.tables.specs.Tables.{openTasks}
 use Rattle.settings.specs.declared.settings.Settings.{Settings}
 use Rattle.settings.specs.Read.{AreBytesOf, Empty, ReadsFile}
 use Rattle.settings.specs.Values.{settingsOf}
-
-same-ok : {X F : Type 0} (x y : X) → _≡_ {A = Result X F} (Ok x) (Ok y) → x ≡ y
-same-ok x y e = cc
-
-ok-not-err : {X F : Type 0} (x : X) (f : F) → _≡_ {A = Result X F} (Ok x) (Err f) → ⊥
-ok-not-err x f e = let z : _≡_ {A = ℕ} 0 1 = cc in omega arith
 
 -- the contract's three clauses
 abbrev Clauses : List ℕ → Result (Unit {0}) FileFault → OpenTable → OpenTable → Settings → Type 0
@@ -49,5 +42,5 @@ pub refuses : (f : List ℕ) (x : FileFault) (old : OpenTable) (models : Setting
 refuses f x old models none e = (
   subst (λ o. ReadsFile o (Err x) old old models) (sym e) (refl, refl, none),
   λ t. absurd (false≢true t),
-  λ s bytes. absurd (ok-not-err s _ (sym (read-bytes f s bytes) ∙ e)),
+  λ s bytes. absurd (no-ok _ s (sym e ∙ read-bytes f s bytes)),
 )

@@ -1,8 +1,7 @@
 -- The laws of the model that has a curve for each task and class.
 use mathlib.Core.Path.{_≡_, refl, sym, ap, _∙_}
 use mathlib.Core.List.{List}
-use mathlib.Core.Logic.{_⊎_, ⊎-elim}
-use Prim.Native.Nat.{ℕ, min, _^_, _≤_, _<_}
+use Prim.Native.Nat.{ℕ, _<_}
 use native.Mathlib.Omega.{arith}
 use lib.ListN.{length, getD, take, length-take}
 use lib.Seq.{getD-take}
@@ -45,8 +44,3 @@ module _ {C : Type 0} (counts : C → ℕ → ℕ) where
     count-held d h b =
         let in-front = nth-getD (take 255 ts) j d (simp length-take (omega arith)) in
         sym (ap (λ t. taskCount counts t k w) (in-front ∙ ap Some (getD-take 255 ts j d b)))
-
-    pub count-absent : (length ts ≤ j) ⊎ (255 ≤ j) → 0 ≡ curvesMeaning counts ts .count j k w
-    count-absent h =
-        let out : min 255 (length ts) ≤ j = ⊎-elim (λ a. omega arith) (λ a. omega arith) h in
-        sym (ap (λ t. taskCount counts t k w) (nth-past (take 255 ts) j (simp length-take out)))

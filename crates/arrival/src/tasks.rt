@@ -1,6 +1,8 @@
 // The model that has a curve for each task and class; it holds the first 255 tasks that it is given.
 ghost use mathlib.Core.Path.{_≡_};
+ghost use Prim.Native.Nat.{min};
 ghost use denote.Ref.{now};
+ghost use lib.ListN.{length};
 ghost use Rattle.std.specs.declared.option.Option.the-variants.{Some};
 ghost use Rattle.arrival.specs.Tasks.{optionCount, taskCount, curvesMeaning};
 ghost use Rattle.arrival.specs.TasksLaws.{option-laws, curves-lawful};
@@ -48,6 +50,13 @@ impl<'a, C> CurveModel<'a, C> {
     {
         CurveModel { tasks }
     }
+
+    // How many tasks the model holds.
+    fn held(&self) -> usize
+        ensures { λ r. ⌜ r ≡ min (length (now (now (self .entry) .tasks))) 255 ⌝ }
+    {
+        self.tasks.len().min(MAX_TASKS)
+    }
 }
 
 pub impl<'a, C: ArrivalCurve> ArrivalModel for CurveModel<'a, C> as CurveArrivals {
@@ -64,12 +73,12 @@ pub impl<'a, C: ArrivalCurve> ArrivalModel for CurveModel<'a, C> as CurveArrival
     ghost absent_is_zero = { λ m. curves-lawful (C·ArrivalCurve .counts) (C·ArrivalCurve .lawful) (now (m .tasks)) .absent-is-zero };
 
     fn tasks(&self) -> u8 {
-        self.tasks.len().min(MAX_TASKS) as u8
+        self.held() as u8
     }
 
     fn count(&self, task: u8, class: Class, length: u32) -> u32 {
         let i = task as usize;
-        if i >= self.tasks.len() || i >= MAX_TASKS {
+        if i >= self.held() {
             return 0;
         }
         self.tasks[i].count(class, length)

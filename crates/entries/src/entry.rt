@@ -1,6 +1,6 @@
 // Reading one entry at the front of some bytes.
 ghost use mathlib.Core.Path.{_≡_};
-ghost use Prim.Native.Nat.{_+_, _≤_};
+ghost use Prim.Native.Nat.{_+_, _*_, _≤_};
 ghost use lib.ListN.{length};
 ghost use Rattle.std.specs.declared.result.Result.the-variants.{Ok};
 ghost use Rattle.base.specs.Faults.{given, in-numbers};
@@ -63,6 +63,13 @@ pub fn curves_in(bytes: &[u8]) -> Result<PjdCurves, Cause>
     Ok(PjdCurves { typical, overload })
 }
 
+// How many bytes a staircase of n points has.
+fn staircase_size(n: u16) -> usize
+    ensures { λ r. ⌜ r ≡ 6 + 4 * n ⌝ }
+{
+    HEAD_SIZE + 4 * n as usize
+}
+
 // Fills the staircase with the one at the front of `bytes`, and answers its number of bytes; refused, it stays.
 pub fn staircase_in<'a>(
     staircase: &mut Staircase<'a>,
@@ -76,7 +83,7 @@ pub fn staircase_in<'a>(
     let n = u16_at(bytes, 0);
     let repeat = u32_at(bytes, 2);
     staircase.fill(n, repeat, &bytes[HEAD_SIZE..])?;
-    Ok(HEAD_SIZE + 4 * n as usize)
+    Ok(staircase_size(n))
 }
 
 pub fn question_in(bytes: &[u8]) -> Result<Question, Cause>

@@ -153,7 +153,6 @@ length-points-spelled [] = refl
 length-points-spelled (p ∷ ps) = omega (arith, length-points-spelled ps)
 
 points-here : (ps bs rest : List ℕ) → All (λ p. p < 256 ^ 4) ps → bs ≡ joined (spelled 4) ps ++ rest → points (length ps) bs ≡ ps
-unfolding points
 points-here [] bs rest small here = refl
 points-here (p ∷ ps) bs rest small here =
     let first : number 4 0 bs ≡ p = number-here 4 p 0 bs (joined (spelled 4) ps ++ rest) (small .0) here in
@@ -161,7 +160,6 @@ points-here (p ∷ ps) bs rest small here =
     λ i. first i ∷ more i
 
 here-points : (n : ℕ) (bs : List ℕ) → 4 * n ≤ length bs → Bytes bs → bs ≡ joined (spelled 4) (points n bs) ++ drop (4 * n) bs
-unfolding points
 here-points zero bs long small = refl
 here-points (suc n) bs long small =
     let at : 4 + 4 * n ≡ 4 * suc n = omega arith in

@@ -9,7 +9,6 @@ use Rattle.base.specs.Numbers.{number, number-after}
 use Rattle.staircase.specs.Stairs.{points}
 
 pub getD-points : (n : ℕ) (bs : List ℕ) (i : ℕ) → i < n → getD (points n bs) i 0 ≡ number 4 (4 * i) bs
-unfolding points
 getD-points zero bs i h = absurd (omega arith)
 getD-points (suc n) bs zero h = refl
 getD-points (suc n) bs (suc i) h =
@@ -17,7 +16,6 @@ getD-points (suc n) bs (suc i) h =
     getD-points n (drop 4 bs) i (omega arith) ∙ ap (λ l. number 4 0 l) (drop-drop (4 * i) 4 bs) ∙ ap (λ k. number 4 k bs) at
 
 pub points-take : (n : ℕ) (bs : List ℕ) → points n (take (4 * n) bs) ≡ points n bs
-unfolding points
 points-take zero bs = refl
 points-take (suc n) bs =
     let at : 4 * suc n ≡ 4 + 4 * n = omega arith in

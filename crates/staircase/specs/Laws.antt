@@ -17,7 +17,6 @@ use Rattle.staircase.specs.Stairs.{Stairs, points, rises, points-ok, upTo, sta
 use Rattle.staircase.specs.Values.{stairsOf}
 
 pub length-points : (n : ℕ) (bs : List ℕ) → length (points n bs) ≡ n
-unfolding points
 length-points zero bs = refl
 length-points (suc n) bs = ap suc (length-points n (drop 4 bs))
 

@@ -15,7 +15,7 @@ pub record Stairs : Type 0 where
   pub points : List ℕ
 
 -- the first n points in some bytes, four bytes each
-unfoldable pub points : ℕ → List ℕ → List ℕ
+abbrev pub points : ℕ → List ℕ → List ℕ
 points zero bs = []
 points (suc n) bs = number 4 0 bs ∷ points n (drop 4 bs)
 

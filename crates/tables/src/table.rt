@@ -29,4 +29,5 @@ pub enum TableFault {
     NoSuchTask,
 }
 
+pub mod closed;
 pub mod methods;

@@ -24,7 +24,7 @@ impl<T: Copy, const N: usize> BoundedList<T, N> {
         ensures value { λ r. ⌜ r ≡ length (held (now (self .entry))) ⌝ }
         ensures bound { λ r. ⌜ r ≤ N ⌝ }
     {
-        self.len
+        self.as_slice().len()
     }
 
     // One element more at the end; false where the list is full, and it then stays.
@@ -42,13 +42,20 @@ impl<T: Copy, const N: usize> BoundedList<T, N> {
         true
     }
 
+    // Whether there is an element at place i.
+    fn holds(&self, i: usize) -> bool
+        ensures { λ r. ⌜ r ≡ ltb i (length (held (now (self .entry)))) ⌝ }
+    {
+        i < self.len
+    }
+
     // Another element at place i; false where there is no such place, and the list then stays.
     pub fn set(&mut self, i: usize, x: T) -> bool
         ensures value { λ r. ⌜ r ≡ ltb i (length (held (now (self .entry)))) ⌝ }
         ensures after { λ r. ⌜ held (now (self .exit)) ≡ cond r (set (held (now (self .entry))) i x) (held (now (self .entry))) ⌝ }
         ensures len { λ _. ⌜ length (held (now (self .exit))) ≡ length (held (now (self .entry))) ⌝ }
     {
-        if i >= self.len {
+        if !self.holds(i) {
             return false;
         }
         self.items[i] = x;
@@ -58,7 +65,7 @@ impl<T: Copy, const N: usize> BoundedList<T, N> {
     pub fn get(&self, i: usize) -> Option<T>
         ensures { λ r. ⌜ r ≡ nth (held (now (self .entry))) i ⌝ }
     {
-        if i < self.len {
+        if self.holds(i) {
             Some(self.items[i])
         } else {
             None

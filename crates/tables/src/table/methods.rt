@@ -1,4 +1,4 @@
-// Filling, closing and opening tables; a table's meaning is the list of its tasks.
+// Filling and closing tables; a table's meaning is the list of its tasks.
 ghost use mathlib.Core.Path.{_≡_};
 ghost use mathlib.Core.List.{[], _∷_};
 ghost use lib.ListN.{length};
@@ -69,22 +69,5 @@ impl OpenTable {
     {
         let OpenTable { tasks } = self;
         ClosedTable { tasks }
-    }
-}
-
-impl ClosedTable {
-    pub fn reopen(self) -> OpenTable
-        ensures { λ r. ⌜ openTasks r ≡ closedTasks self ⌝ }
-    {
-        let ClosedTable { tasks } = self;
-        OpenTable { tasks }
-    }
-
-    pub fn tasks(&self) -> &[Task]
-        ensures value { λ r. ⌜ now r ≡ closedTasks (now (self .entry)) ⌝ }
-        ensures low_bound { λ r. ⌜ 1 ≤ length (now r) ⌝ }
-        ensures high_bound { λ r. ⌜ length (now r) ≤ 32 ⌝ }
-    {
-        self.tasks.as_slice()
     }
 }

@@ -11,4 +11,5 @@ returns-in-Break-fill c =
 
 pub returns : need.returns
 returns c =
-    head-takes (c .args .bytes .now) (c .if-bytes-lt-HEAD-SIZE .left) _ _ (c .u16-at-n .ensures) (c .u32-at-repeat .ensures) (Ok tt) _ _ (c .in-Continue-fill .ensures tt)
+    rw (c .staircase-size .ensures)
+    (head-takes (c .args .bytes .now) (c .if-bytes-lt-HEAD-SIZE .left) _ _ (c .u16-at-n .ensures) (c .u32-at-repeat .ensures) (Ok tt) _ _ (c .in-Continue-fill .ensures tt))

@@ -1,6 +1,6 @@
-use Prim.Native.Nat.{zero-le}
+use native.Mathlib.Omega.{arith}
 use Rattle.std.proofs.shelf.Lists.{length-replicate}
 use Rattle.base.proofs.bounded.BoundedList.new.Needs as need
 
 pub ghost-result : need.ghost-result
-ghost-result g c = (zero-le, (length-replicate (g .N) (c .args .filler), tt))
+ghost-result g c = (omega arith, (length-replicate (g .N) (c .args .filler), tt))

@@ -3,6 +3,7 @@ ghost use denote.Ref.{now};
 ghost use Rattle.arrival.specs.Chain.{chain};
 ghost use Rattle.arrival.specs.ChainLaws.{chain-zero-at-zero, chain-monotone, chain-at-most-length, chain-few-tasks, chain-absent-is-zero};
 use crate::ArrivalModel;
+use crate::MAX_HELD;
 use crate::class::Class;
 
 // Holds its models by value; a model that is lent is a model too, so a chain of `&F` and `&G` borrows.
@@ -11,9 +12,6 @@ pub struct ChainedModel<F, G> {
     pub first: F,
     pub second: G,
 }
-
-// A task's number has 8 bits, and a model holds none above 254.
-const MAX_TASKS: u8 = 255;
 
 pub impl<F: ArrivalModel, G: ArrivalModel> ArrivalModel for ChainedModel<F, G> as ChainedArrivals {
     ghost meaning = { λ m. chain (F·ArrivalModel .meaning (m .first)) (G·ArrivalModel .meaning (m .second)) };
@@ -33,7 +31,7 @@ pub impl<F: ArrivalModel, G: ArrivalModel> ArrivalModel for ChainedModel<F, G> a
     }
 
     fn count(&self, task: u8, class: Class, length: u32) -> u32 {
-        if task == MAX_TASKS {
+        if task >= MAX_HELD {
             return 0;
         }
         let held = self.first.tasks();

@@ -10,6 +10,9 @@ pub mod tasks;
 
 use class::Class;
 
+// How many tasks a model holds at most.
+pub const MAX_HELD: u8 = 255;
+
 // An arrival model. Its meaning is a number of tasks and, for each task, class and window length, the count: at most so
 // many releases lie in any half-open window of that length. An implementation gives its meaning, proves the five laws of
 // it, and answers as it says. Code over a model knows no more than this.

@@ -7,6 +7,7 @@ ghost use Rattle.std.specs.declared.option.Option.the-variants.{Some};
 ghost use Rattle.arrival.specs.Tasks.{optionCount, taskCount, curvesMeaning};
 ghost use Rattle.arrival.specs.TasksLaws.{option-laws, curves-lawful};
 use crate::ArrivalModel;
+use crate::MAX_HELD;
 use crate::class::Class;
 use crate::curve::ArrivalCurve;
 use crate::curve::TaskCurves;
@@ -24,9 +25,6 @@ pub impl<C: ArrivalCurve> ArrivalCurve for Option<C> as OptionArrivals {
         }
     }
 }
-
-// How many tasks a model holds at most.
-const MAX_TASKS: usize = 255;
 
 impl<C: ArrivalCurve> TaskCurves<C> {
     pub fn count(&self, class: Class, length: u32) -> u32
@@ -55,7 +53,7 @@ impl<'a, C> CurveModel<'a, C> {
     fn held(&self) -> usize
         ensures { λ r. ⌜ r ≡ min (length (now (now (self .entry) .tasks))) 255 ⌝ }
     {
-        self.tasks.len().min(MAX_TASKS)
+        self.tasks.len().min(MAX_HELD as usize)
     }
 }
 

@@ -1,5 +1,6 @@
 // The bytes that the program prints.
 ghost use mathlib.Core.Path.{_≡_};
+ghost use mathlib.Core.List.{[], _∷_, map};
 ghost use lib.ListN.{length};
 ghost use Rattle.std.specs.Of.String.{string-bytes};
 ghost use Rattle.std.specs.Vec.{made};
@@ -7,6 +8,7 @@ ghost use Rattle.std.specs.declared.option.Option.the-variants.{Some};
 ghost use Rattle.entries.specs.Values.{faultOf};
 ghost use Rattle.file_format.specs.File.{settings};
 ghost use Rattle.tables.specs.Tables.{openTasks};
+ghost use Rattle.tables.specs.Tasks.{timesOf};
 ghost use Rattle.report.specs.Lines.{lineFault, printed, refused-line, tasks-line};
 use entries::fault::FileFault;
 use settings::settings::Settings;
@@ -68,7 +70,9 @@ fn task_count(heap: Global, table: &OpenTable) -> Result<String, AllocError>
 }
 
 // A table for the reader to fill; its one task is replaced.
-fn blank_table() -> OpenTable {
+fn blank_table() -> OpenTable
+    ensures { λ r. ⌜ map timesOf (openTasks r) ≡ record { wcet = 1; deadline = 1 } ∷ [] ⌝ }
+{
     match Task::new(1, 1) {
         Ok(task) => OpenTable::new(task),
         Err(_) => unreachable(),

@@ -1,5 +1,7 @@
-// Worked examples as tests: the counts of curves and models, and the lines for settings files.
+// Worked examples as tests: the counts of curves and models, the lines for settings files, and busy windows.
 #[cfg(test)]
 mod counts;
 #[cfg(test)]
 mod files;
+#[cfg(test)]
+mod windows;

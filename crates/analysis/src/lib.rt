@@ -1,4 +1,6 @@
 // The analysis of a closed table under an arrival model.
+#![tactic(auto)]
+
 mod level;
 mod minimal;
 pub mod number;

@@ -1,4 +1,6 @@
 // Arrival models: how many releases a window of time can hold at most.
+#![tactic(auto)]
+
 ghost use Rattle.std.specs.Prelude.{◌≡◌};
 ghost use Rattle.arrival.specs.Meaning.{Meaning, ZeroAtZero, Monotone, AtMostLength, FewTasks, AbsentIsZero};
 

@@ -1,4 +1,6 @@
 // One processor, dispatched by task number: runs of a closed table, their releases and ticks, and the log of their jobs.
+#![tactic(auto)]
+
 mod admission;
 pub mod number;
 pub mod record;

@@ -1,5 +1,7 @@
 // Drives two executions of the shipped settings, and prints each call with its answer, the records that are left, and the bound
 // that the question gives.
+#![tactic(auto)]
+
 use analysis::question::ask;
 use arrival::ArrivalModel;
 use arrival::class::Class;

@@ -1,4 +1,6 @@
 // Worked examples as tests: the counts of curves and models, the lines for settings files, busy windows and questions.
+#![tactic(auto)]
+
 #[cfg(test)]
 mod counts;
 #[cfg(test)]

@@ -1,4 +1,6 @@
 // Loads of a window, and the least length that serves one.
+#![tactic(auto)]
+
 ghost use Rattle.std.specs.Prelude.{◌≡◌, ℕ, ◌≤◌, MatchOption};
 ghost use Rattle.theory.specs.Least.{Least, Rises, Serves};
 

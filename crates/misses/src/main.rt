@@ -1,4 +1,6 @@
 // Reads a settings file from standard input and prints the answers to its questions, or its first fault.
+#![tactic(auto)]
+
 use report::report;
 use std::io::{Read, Write};
 

@@ -1,4 +1,6 @@
 // The arrival model by period, jitter and distance.
+#![tactic(auto)]
+
 use arrival::curve::TaskCurves;
 use arrival::tasks::CurveModel;
 

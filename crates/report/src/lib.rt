@@ -1,4 +1,6 @@
 // The bytes that the program prints.
+#![tactic(auto)]
+
 ghost use Rattle.std.specs.Prelude.{◌≡◌, ℕ, [], ◌∷◌, map, length, IfOk, Some, Ok, string_bytes, Result as ResultOf};
 ghost use Rattle.analysis.specs.Refusals.{refusal_number};
 ghost use Rattle.base.specs.Faults.{in_numbers};

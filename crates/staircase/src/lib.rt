@@ -1,4 +1,6 @@
 // The arrival model by staircases whose points are read where they lie.
+#![tactic(auto)]
+
 use arrival::curve::TaskCurves;
 use arrival::tasks::CurveModel;
 

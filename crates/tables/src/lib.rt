@@ -1,3 +1,5 @@
 // Tasks and the tables that hold them.
+#![tactic(auto)]
+
 pub mod table;
 pub mod task;

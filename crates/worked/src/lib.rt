@@ -1,4 +1,6 @@
 // Worked rows: what small settings count, and what is answered of them.
+#![tactic(auto)]
+
 ghost use Rattle.std.specs.Prelude.{◌≡◌};
 ghost use Rattle.worked.specs.Rows.{WorkedRows};
 

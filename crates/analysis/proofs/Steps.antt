@@ -4,7 +4,7 @@ use Rattle.std.specs.List.{slice_get}
 use Rattle.std.proofs.lemmas.List.{append_assoc, get_or_append_left, get_or-map, length-map, map_more, map_push}
 use Rattle.std.proofs.lemmas.Option.{slice_get-get_or}
 use Rattle.loads.specs.declared.combination.Combination.{Combination}
-use Rattle.loads.specs.Sets.{added}
+use Rattle.loads.specs.Added.{added}
 use Rattle.loads.proofs.Masks.{added_new}
 use Rattle.theory.specs.Search.{Lacks, at}
 use Rattle.analysis.specs.Sources.{masks}

@@ -46,7 +46,7 @@ impl<'a, M: ArrivalModel> Level<'a, M> {
 
     // How many jobs of the task a window of this length holds at most.
     fn jobs(&self, set: &Combination, window: u32) -> u64
-        ensures value { let l = self.now in result ≡ arrivals (meaning l.model.now) (member set.now.mask) l.task window }
+        ensures value { let l = self.now in result ≡ arrivals (M.meaning l.model.now) (member set.now.mask) l.task window }
         ensures bound { result ≤ 2 * window }
     {
         arrivals_in(self.model, set, self.task, window)
@@ -55,7 +55,7 @@ impl<'a, M: ArrivalModel> Level<'a, M> {
     // How many positions a busy window of this length has.
     fn positions(&self, set: &Combination, window: u32) -> u32
         requires { window ≤ 1000000 }
-        ensures { let l = self.now in result ≡ arrivals (meaning l.model.now) (member set.now.mask) l.task window }
+        ensures { let l = self.now in result ≡ arrivals (M.meaning l.model.now) (member set.now.mask) l.task window }
     {
         self.jobs(set, window) as u32
     }
@@ -70,7 +70,7 @@ impl<'a, M: ArrivalModel> Level<'a, M> {
     fn overdue(&self, set: &Combination, q: u32, finish: u32) -> bool
         ensures { let l = self.now in
             let d = (table_of l.tasks.now).deadline l.task in
-            result ≡ (nat_lt d finish && nat_le q (arrivals (meaning l.model.now) (member set.now.mask) l.task (finish - d))) }
+            result ≡ (nat_lt d finish && nat_le q (arrivals (M.meaning l.model.now) (member set.now.mask) l.task (finish - d))) }
     {
         let deadline = self.deadline();
         finish > deadline && self.jobs(set, finish - deadline) >= q as u64
@@ -91,7 +91,7 @@ impl<'a, M: ArrivalModel> Level<'a, M> {
     // K: how many positions a busy window of this length has where every task may be overloaded.
     pub(crate) fn most_positions(&self, window: u32) -> u32
         requires { window ≤ 1000000 }
-        ensures { let l = self.now in result ≡ arrivals (meaning l.model.now) every l.task window }
+        ensures { let l = self.now in result ≡ arrivals (M.meaning l.model.now) every l.task window }
     {
         self.positions(&Combination::every(), window)
     }
@@ -99,9 +99,9 @@ impl<'a, M: ArrivalModel> Level<'a, M> {
     // Whether position q of the busy window with overload in the set only is late.
     fn is_late(&self, set: &Combination, q: u32, window: u32) -> bool
         requires short { window ≤ 1000000 }
-        requires window { BusyLength (meaning self.now.model.now) (table_of self.now.tasks.now).wcet (member set.now.mask) self.now.task window }
-        requires position { (1 ≤ q) × (q ≤ arrivals (meaning self.now.model.now) (member set.now.mask) self.now.task window) }
-        ensures { let l = self.now in Decides result (LatePosition (meaning l.model.now) (table_of l.tasks.now) l.task (member set.now.mask) q) }
+        requires window { BusyLength (M.meaning self.now.model.now) (table_of self.now.tasks.now).wcet (member set.now.mask) self.now.task window }
+        requires position { (1 ≤ q) × (q ≤ arrivals (M.meaning self.now.model.now) (member set.now.mask) self.now.task window) }
+        ensures { let l = self.now in Decides result (LatePosition (M.meaning l.model.now) (table_of l.tasks.now) l.task (member set.now.mask) q) }
     {
         let load = PositionLoad {
             model: self.model,
@@ -119,8 +119,8 @@ impl<'a, M: ArrivalModel> Level<'a, M> {
     // Whether overload in the set makes a position late; no window is longer than L.
     pub(crate) fn unschedulable(&self, set: &Combination, longest: u32) -> bool
         requires short { longest ≤ 1000000 }
-        requires longest { WindowLength (meaning self.now.model.now) (table_of self.now.tasks.now) self.now.task longest }
-        ensures { let l = self.now in Decides result (Unschedulable (meaning l.model.now) (table_of l.tasks.now) l.task (member set.now.mask)) }
+        requires longest { WindowLength (M.meaning self.now.model.now) (table_of self.now.tasks.now) self.now.task longest }
+        ensures { let l = self.now in Decides result (Unschedulable (M.meaning l.model.now) (table_of l.tasks.now) l.task (member set.now.mask)) }
     {
         let Some(window) = self.window(set, longest) else {
             unreachable()
@@ -136,8 +136,8 @@ impl<'a, M: ArrivalModel> Level<'a, M> {
     // N: how many positions are late where every task may be overloaded.
     pub(crate) fn late_positions(&self, longest: u32) -> u32
         requires short { longest ≤ 1000000 }
-        requires longest { WindowLength (meaning self.now.model.now) (table_of self.now.tasks.now) self.now.task longest }
-        ensures { let l = self.now in LateCount (meaning l.model.now) (table_of l.tasks.now) l.task longest result }
+        requires longest { WindowLength (M.meaning self.now.model.now) (table_of self.now.tasks.now) self.now.task longest }
+        ensures { let l = self.now in LateCount (M.meaning l.model.now) (table_of l.tasks.now) l.task longest result }
     {
         let every = Combination::every();
         let mut late = 0;

@@ -29,9 +29,9 @@ fn covered(found: &[Combination], set: &Combination) -> bool
 // Whether overload in the set can make a job late; that the empty set cannot is known by then, so it is not tested again.
 fn fails<'a, M: ArrivalModel>(level: &Level<'a, M>, set: &Combination, longest: u32) -> bool
     requires short { longest ≤ 1000000 }
-    requires longest { WindowLength (meaning level.now.model.now) (table_of level.now.tasks.now) level.now.task longest }
-    requires safe { Fails (meaning level.now.model.now) (table_of level.now.tasks.now) level.now.task 0 → ⊥ }
-    ensures { let l = level.now in Decides result (Fails (meaning l.model.now) (table_of l.tasks.now) l.task set.now.mask) }
+    requires longest { WindowLength (M.meaning level.now.model.now) (table_of level.now.tasks.now) level.now.task longest }
+    requires safe { Fails (M.meaning level.now.model.now) (table_of level.now.tasks.now) level.now.task 0 → ⊥ }
+    ensures { let l = level.now in Decides result (Fails (M.meaning l.model.now) (table_of l.tasks.now) l.task set.now.mask) }
 {
     if set.is_empty() {
         return false;
@@ -46,10 +46,10 @@ pub(crate) fn minimal<'a, M: ArrivalModel>(
     sources: &[Source],
 ) -> BoundedList<Combination, 64>
     requires short { longest ≤ 1000000 }
-    requires longest { WindowLength (meaning level.now.model.now) (table_of level.now.tasks.now) level.now.task longest }
-    requires safe { Fails (meaning level.now.model.now) (table_of level.now.tasks.now) level.now.task 0 → ⊥ }
+    requires longest { WindowLength (M.meaning level.now.model.now) (table_of level.now.tasks.now) level.now.task longest }
+    requires safe { Fails (M.meaning level.now.model.now) (table_of level.now.tasks.now) level.now.task 0 → ⊥ }
     requires sources { Sources sources.now }
-    ensures { let l = level.now in Exactly (Minimal (Fails (meaning l.model.now) (table_of l.tasks.now) l.task) (source_of sources.now)) (masks (held result)) }
+    ensures { let l = level.now in Exactly (Minimal (Fails (M.meaning l.model.now) (table_of l.tasks.now) l.task) (source_of sources.now)) (masks (held result)) }
 {
     let sets = subsets(sources);
     let mut found = BoundedList::new(Combination::none());

@@ -75,14 +75,14 @@ fn greatest_packing<'a, M: ArrivalModel>(
     cells: &mut [u16],
 ) -> u16
     requires short { longest ≤ 1000000 }
-    requires longest { WindowLength (meaning level.now.model.now) (table_of level.now.tasks.now) level.now.task longest }
-    requires safe { Fails (meaning level.now.model.now) (table_of level.now.tasks.now) level.now.task 0 → ⊥ }
+    requires longest { WindowLength (M.meaning level.now.model.now) (table_of level.now.tasks.now) level.now.task longest }
+    requires safe { Fails (M.meaning level.now.model.now) (table_of level.now.tasks.now) level.now.task 0 → ⊥ }
     requires sources { Sources sources.now }
     requires room { states_of sources.now ≤ length cells.old }
     ensures greatest { (b : ℕ → ℕ) → (let l = level.now in
         let source = λ (j : ℕ). (j ≤ l.task) × (1 ≤ b j) in
         Gathered b (suc l.task) sources.now
-        → Greatest (Minimal (Fails (meaning l.model.now) (table_of l.tasks.now) l.task) source) source b (suc l.task) result) }
+        → Greatest (Minimal (Fails (M.meaning l.model.now) (table_of l.tasks.now) l.task) source) source b (suc l.task) result) }
     ensures kept { drop (states_of sources.now) cells.new ≡ drop (states_of sources.now) cells.old }
 {
     let combinations = minimal(level, longest, sources);
@@ -107,10 +107,10 @@ pub fn ask<'a, M: ArrivalModel>(
     span: u32,
     cells: &mut [u16],
 ) -> Result<u16, Refusal>
-    ensures answer { Answer (meaning model.now) (table_of (closed_tasks table.now)) task jobs span (length cells.old) (in_numbers (λ a. a) refusal_number result) }
-    ensures executions { IfOk result (λ a. ExecutionPromise (meaning model.now) table.now task jobs span a) }
-    ensures exchange { IfOk result (λ a. ExchangePromise (meaning model.now) (table_of (closed_tasks table.now)) task jobs span (length cells.old) a) }
-    ensures cells { CellsAfter (meaning model.now) (table_of (closed_tasks table.now)) task jobs span (in_numbers (λ a. a) refusal_number result) cells.old cells.new }
+    ensures answer { Answer (M.meaning model.now) (table_of (closed_tasks table.now)) task jobs span (length cells.old) (in_numbers (λ a. a) refusal_number result) }
+    ensures executions { IfOk result (λ a. ExecutionPromise (M.meaning model.now) table.now task jobs span a) }
+    ensures exchange { IfOk result (λ a. ExchangePromise (M.meaning model.now) (table_of (closed_tasks table.now)) task jobs span (length cells.old) a) }
+    ensures cells { CellsAfter (M.meaning model.now) (table_of (closed_tasks table.now)) task jobs span (in_numbers (λ a. a) refusal_number result) cells.old cells.new }
 {
     check_task(table, model, task)?;
     check_range(jobs, span)?;

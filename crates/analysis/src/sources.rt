@@ -1,7 +1,7 @@
 // The sources of a question: the tasks whose overload can make a job late, each with its budget.
 ghost use Rattle.std.specs.Prelude.{◌≡◌, ◌<◌, MatchOption, nat_le};
 ghost use Rattle.base.specs.Bounded.{held};
-ghost use Rattle.theory.specs.Sums.{count as countBelow};
+ghost use Rattle.theory.specs.Sums.{count as count_below};
 ghost use Rattle.analysis.specs.Sources.{Gathered, budget_within};
 
 use arrival::ArrivalModel;
@@ -17,7 +17,7 @@ pub(crate) struct Source {
 
 // The budget of a task: how many overload releases a stretch of the length `reach` holds, k at most.
 pub(crate) fn budget_of<M: ArrivalModel>(model: &M, k: u16, task: u8, reach: u32) -> u16
-    ensures { result ≡ budget_within (meaning model.now) k reach task }
+    ensures { result ≡ budget_within (M.meaning model.now) k reach task }
 {
     let count = model.count(task, Class::Overload, reach);
     if count < k as u32 { count as u16 } else { k }
@@ -30,7 +30,7 @@ pub(crate) fn gather<M: ArrivalModel>(
     n: u8,
     reach: u32,
 ) -> Option<BoundedList<Source, 6>>
-    ensures { MatchOption result (6 < countBelow (λ j. nat_le 1 (budget_within (meaning model.now) k reach j)) n) (λ found. Gathered (budget_within (meaning model.now) k reach) n (held found)) }
+    ensures { MatchOption result (6 < count_below (λ j. nat_le 1 (budget_within (M.meaning model.now) k reach j)) n) (λ found. Gathered (budget_within (M.meaning model.now) k reach) n (held found)) }
 {
     let mut found = BoundedList::new(Source { task: 0, budget: 0 });
     for task in 0..n {

@@ -14,7 +14,7 @@ pub(crate) fn check_task<M: ArrivalModel>(
     model: &M,
     task: u8,
 ) -> Result<(), Refusal>
-    ensures { OfTable (meaning model.now) (table_of (closed_tasks table.now)) task result }
+    ensures { OfTable (M.meaning model.now) (table_of (closed_tasks table.now)) task result }
 {
     let tasks = table.tasks().len();
     if model.tasks() as usize != tasks {
@@ -33,7 +33,7 @@ pub fn busy_window<'a, M: ArrivalModel>(
     model: &'a M,
     task: u8,
 ) -> Result<(u32, u32), Refusal>
-    ensures { AnswersWindow (meaning model.now) (table_of (closed_tasks table.now)) task result }
+    ensures { AnswersWindow (M.meaning model.now) (table_of (closed_tasks table.now)) task result }
 {
     check_task(table, model, task)?;
     let level = Level {

@@ -1,6 +1,6 @@
 -- The jobs of every execution keep to the table and the model.
 use Rattle.std.proofs.Common.{◌≡◌, ℕ, suc, ◌+◌, ◌-◌, ◌^◌, ◌<◌, ◌≤◌, Bool, true, cond, ◌&&◌, eqb, ltb, leb, List, [], ◌∷◌, ◌++◌, map, length, take, Ok, Err, count_by, sym, refl, ap, ◌∙◌, subst, ⊎_elim, arith}
-use Rattle.std.proofs.lemmas.List.Sums.{sum_by_cons, sum_by_push}
+use Rattle.std.proofs.lemmas.List.Sums.{sum_by-cons, sum_by_push}
 use Rattle.std.proofs.lemmas.Bool.{cases_Bool, and_parts, and_from, cond-true, cond-false, eqb-true, leb-true, ltb-true}
 use Rattle.std.proofs.lemmas.List.{length_push, length-take-le, length-map, get_or-map, get_or-take, ext_get_or}
 use Rattle.arrival.specs.declared.class.Class.{Class}
@@ -68,7 +68,7 @@ module _ (m : Meaning) (rises : Monotone m) (i : ℕ) (k : Class) (clock u w : �
   room_left : (gs : List JobRecord) → WindowsAllow (m.count i k) clock (is_kind i k) gs → count_by here gs + 1 ≤ m.count i k w
   room_left [] all = omega (arith, one, rises i k 1 w (omega arith) fits)
   room_left (g ∷ gs) all =
-      let cons = sum_by_cons (λ (x : JobRecord). cond (here x) 1 0) g gs in
+      let cons = sum_by-cons (λ (x : JobRecord). cond (here x) 1 0) g gs in
       ⊎_elim
       (λ yes.
       let at = inside i k u w (job_of g) yes in

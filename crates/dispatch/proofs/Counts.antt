@@ -1,7 +1,7 @@
 -- Counts over lists.
 use Rattle.std.proofs.Common.{◌≡◌, ℕ, zero, suc, ◌+◌, ◌≤◌, Bool, true, cond, List, [], ◌∷◌, map, length, get_or, take, count_by, sym, refl, ap, ◌∙◌, ⊎_elim, add-one, arith}
 use Rattle.std.proofs.lemmas.List.{take_all}
-use Rattle.std.proofs.lemmas.List.Sums.{sum_by_cons, sum_by_more}
+use Rattle.std.proofs.lemmas.List.Sums.{sum_by-cons, sum_by_more}
 use Rattle.std.proofs.lemmas.Bool.{cases_Bool, cond-true, cond-false}
 use Rattle.theory.specs.Sums.{count}
 use Rattle.theory.proofs.Totals.{total_none, total-suc}
@@ -23,8 +23,8 @@ module _ {X : Type 0} where
   pub count_le : (loose strict : X → Bool) → ((x : X) → strict x ≡ true → loose x ≡ true) → (xs : List X) → count_by strict xs ≤ count_by loose xs
   count_le loose strict sub [] = omega arith
   count_le loose strict sub (x ∷ xs) =
-      let a = sum_by_cons (λ y. cond (loose y) 1 0) x xs in
-      let b = sum_by_cons (λ y. cond (strict y) 1 0) x xs in
+      let a = sum_by-cons (λ y. cond (loose y) 1 0) x xs in
+      let b = sum_by-cons (λ y. cond (strict y) 1 0) x xs in
       let ih = count_le loose strict sub xs in
       ⊎_elim
       (λ yes. let p = cond-true {A = ℕ} (strict x) 1 0 yes in let q = cond-true {A = ℕ} (loose x) 1 0 (sub x yes) in omega arith)
@@ -34,5 +34,5 @@ module _ {X : Type 0} where
   pub count_map : {Y : Type 0} (f : X → Y) (p : Y → Bool) (xs : List X) → count_by (λ x. p (f x)) xs ≡ count_by p (map f xs)
   count_map f p [] = refl
   count_map f p (x ∷ xs) =
-      sum_by_cons (λ y. cond (p (f y)) 1 0) x xs ∙ ap (λ n. cond (p (f x)) 1 0 + n) (count_map f p xs)
-      ∙ sym (sum_by_cons (λ y. cond (p y) 1 0) (f x) (map f xs))
+      sum_by-cons (λ y. cond (p (f y)) 1 0) x xs ∙ ap (λ n. cond (p (f x)) 1 0 + n) (count_map f p xs)
+      ∙ sym (sum_by-cons (λ y. cond (p y) 1 0) (f x) (map f xs))

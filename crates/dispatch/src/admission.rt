@@ -91,7 +91,7 @@ fn windows_allow<M: ArrivalModel>(
     clock: u32,
 ) -> bool
     requires { clock ≤ 1000000000 }
-    ensures { Decides result (WindowsAllow ((meaning model.now).count task class) clock (is_kind task class) log.now) }
+    ensures { Decides result (WindowsAllow ((M.meaning model.now).count task class) clock (is_kind task class) log.now) }
 {
     let mut same = 0;
     for i in (0..log.len()).rev() {
@@ -115,7 +115,7 @@ pub(crate) fn model_allows<M: ArrivalModel>(
     clock: u32,
 ) -> bool
     requires { clock ≤ 1000000000 }
-    ensures { Decides result (Allowed ((meaning model.now).count task class) clock (is_kind task class) log.now) }
+    ensures { Decides result (Allowed ((M.meaning model.now).count task class) clock (is_kind task class) log.now) }
 {
     within(0, model.count(task, class, 1)) && windows_allow(model, log, task, class, clock)
 }

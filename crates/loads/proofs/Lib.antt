@@ -1,3 +1,3 @@
 pub mod Jumps
 pub mod Masks
-pub mod Tasks
+pub mod Tables

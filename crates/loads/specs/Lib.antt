@@ -1,2 +1,5 @@
 pub mod Sets
 pub mod Works
+pub mod Laws
+pub mod Added
+pub mod Tables

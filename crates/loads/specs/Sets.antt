@@ -1,7 +1,6 @@
--- A set of tasks with one more.
-use Rattle.std.specs.Prelude.{ℕ, ◌+◌, ◌^◌, cond, not, ◌&&◌, nat_lt}
-use Rattle.theory.specs.Sets.{member}
+-- A set of tasks as a test on their numbers.
+use Rattle.std.specs.Prelude.{ℕ, ◌/◌, ◌%◌, ◌^◌, Bool, ◌&&◌, ◌==◌, nat_lt}
+use Rattle.loads.specs.declared.combination.Combination.{Combination}
 
--- the set s with task j; it stays where it has j, or where no table has such a task
-abbrev pub added : ℕ → ℕ → ℕ
-added s j = cond (nat_lt j 32 && not (member s j)) (s + 2 ^ j) s
+abbrev pub member : Combination → ℕ → Bool
+member c j = nat_lt j 32 && c.mask / 2 ^ j % 2 == 1

@@ -1,7 +1,8 @@
 // A set of tasks, as a mask with a bit for each.
 ghost use Rattle.std.specs.Prelude.{◌≡◌, ◌<◌, Decides, ◌==◌, bit_and, nat_lt};
-ghost use Rattle.theory.specs.Sets.{Subset, member};
-ghost use Rattle.loads.specs.Sets.{added};
+ghost use Rattle.theory.specs.Sets.{Subset, member as in_mask};
+ghost use Rattle.loads.specs.Added.{added};
+ghost use Rattle.loads.specs.Sets.{member};
 
 #[derive(Clone, Copy, PartialEq, Eq, Debug)]
 pub struct Combination {
@@ -18,7 +19,7 @@ fn has_bit(j: u8) -> bool
 // Whether bit j of the mask is set.
 fn bit(mask: u32, j: u8) -> bool
     requires { j < 32 }
-    ensures { result ≡ member mask j }
+    ensures { result ≡ in_mask mask j }
 {
     (mask >> j) & 1 == 1
 }
@@ -72,9 +73,11 @@ impl Combination {
 
     // Whether task j is in the set; a table has 32 tasks at most.
     pub fn contains(&self, j: u8) -> bool
-        ensures { result ≡ member self.now.mask j }
+        ensures held { result ≡ member self.now j }
+        ensures bit { result ≡ in_mask self.now.mask j }
     {
-        let mask = self.mask;
-        has_bit(j) && bit(mask, j)
+        // Read first, so that it is known to have 32 bits.
+        let _mask = self.mask;
+        j < 32 && bit(self.mask, j)
     }
 }

@@ -1,9 +1,9 @@
 // Two kinds of load over any arrival model: the whole level of a task, and one position of its busy window.
 ghost use Rattle.std.specs.Prelude.{◌≡◌, ◌+◌, ◌*◌, ◌<◌, ◌≤◌, length};
 ghost use Rattle.theory.specs.Levels.{arrivals, demand, level_load, position_load};
-ghost use Rattle.theory.proofs.Lighter.{level_rises, position_rises};
-ghost use Rattle.theory.specs.Sets.{member};
-ghost use Rattle.loads.specs.Works.{table_of};
+ghost use Rattle.loads.specs.Laws.{level_rises, position_rises};
+ghost use Rattle.loads.specs.Sets.{member};
+ghost use Rattle.loads.specs.Works.{wcet_of};
 
 use crate::Load;
 use crate::combination::Combination;
@@ -13,7 +13,7 @@ use tables::task::Task;
 
 // At most so many jobs of task j are released in a window of this length, with overload only in the combination.
 pub fn arrivals_in<M: ArrivalModel>(model: &M, combination: &Combination, j: u8, length: u32) -> u64
-    ensures value { result ≡ arrivals (meaning model.now) (member combination.now.mask) j length }
+    ensures value { result ≡ arrivals (M.meaning model.now) (member combination.now) j length }
     ensures bound { result ≤ 2 * length }
 {
     let typical = model.count(j, Class::Typical, length) as u64;
@@ -27,7 +27,7 @@ pub fn arrivals_in<M: ArrivalModel>(model: &M, combination: &Combination, j: u8,
 // The wcet of task j.
 fn wcet_of(tasks: &[Task], j: usize) -> u64
     requires { j < length tasks.now }
-    ensures value { result ≡ (table_of tasks.now).wcet j }
+    ensures value { result ≡ wcet_of tasks.now j }
     ensures bound { result ≤ 100000 }
 {
     tasks[j].wcet() as u64
@@ -42,7 +42,7 @@ fn demand_of<M: ArrivalModel>(
     window: u32,
 ) -> u64
     requires { (n ≤ 32) × (n ≤ length tasks.now) }
-    ensures value { result ≡ demand (meaning model.now) (table_of tasks.now).wcet (member combination.now.mask) n window }
+    ensures value { result ≡ demand (M.meaning model.now) (wcet_of tasks.now) (member combination.now) n window }
     ensures bound { result ≤ n * 858993459200000 }
 {
     let mut sum = 0;
@@ -64,9 +64,9 @@ pub struct LevelLoad<'a, M> {
 }
 
 impl<'a, M: ArrivalModel> Load for LevelLoad<'a, M> {
-    ghost load = { λ l. level_load (M.ArrivalModel.meaning l.model.now) (table_of l.tasks.now).wcet (member l.combination.mask) l.last };
+    ghost load = { λ l. level_load (M.ArrivalModel.meaning l.model.now) (wcet_of l.tasks.now) (member l.combination) l.last };
 
-    ghost rises = { λ l. level_rises (M.ArrivalModel.meaning l.model.now) (M.ArrivalModel.monotone l.model.now) (table_of l.tasks.now).wcet (member l.combination.mask) l.last };
+    ghost rises = { λ l. level_rises (M.ArrivalModel.meaning l.model.now) (M.ArrivalModel.monotone l.model.now) (wcet_of l.tasks.now) (member l.combination) l.last };
 
     fn at(&self, length: u32) -> u64 {
         demand_of(
@@ -92,9 +92,9 @@ pub struct PositionLoad<'a, M> {
 }
 
 impl<'a, M: ArrivalModel> Load for PositionLoad<'a, M> {
-    ghost load = { λ l. position_load (M.ArrivalModel.meaning l.model.now) (table_of l.tasks.now).wcet (member l.combination.mask) l.task l.q };
+    ghost load = { λ l. position_load (M.ArrivalModel.meaning l.model.now) (wcet_of l.tasks.now) (member l.combination) l.task l.q };
 
-    ghost rises = { λ l. position_rises (M.ArrivalModel.meaning l.model.now) (M.ArrivalModel.monotone l.model.now) (table_of l.tasks.now).wcet (member l.combination.mask) l.task l.q };
+    ghost rises = { λ l. position_rises (M.ArrivalModel.meaning l.model.now) (M.ArrivalModel.monotone l.model.now) (wcet_of l.tasks.now) (member l.combination) l.task l.q };
 
     fn at(&self, length: u32) -> u64 {
         let task = self.task as usize;

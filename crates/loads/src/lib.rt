@@ -21,7 +21,7 @@ pub trait Load {
 // The least length up to the limit that serves the load; none exactly if no such length does. Where a length does not, none
 // below its load does either, so the search goes on there.
 pub fn least_length<L: Load>(l: &L, limit: u32) -> Option<u32>
-    ensures { MatchOption result ((w : ℕ) → w ≤ limit → Serves (load l.now) w → ⊥) (λ w. (w ≤ limit) × Least (Serves (load l.now)) w) }
+    ensures { MatchOption result ((w : ℕ) → w ≤ limit → Serves (L.load l.now) w → ⊥) (λ w. (w ≤ limit) × Least (Serves (L.load l.now)) w) }
 {
     let mut length = 1;
     while length <= limit {

@@ -9,7 +9,7 @@ use Rattle.pjd.specs.declared.curve.PjdCurve.{PjdCurve}
 use Rattle.pjd.specs.Curves.{Pjd, ceil, pjd_count, numbers_of}
 
 -- rounded up, a quotient does not exceed its dividend
-ceil_small : (w d : ℕ) → ceil w d ≤ w
+pub ceil_small : (w d : ℕ) → ceil w d ≤ w
 ceil_small w zero = omega (arith, div-zero w, mod-zero w)
 ceil_small w (suc d) =
     let wide : w / suc d * 1 ≤ w / suc d * suc d = mul-le (w / suc d) 1 (w / suc d) (suc d) (omega arith) (omega arith) in

@@ -114,7 +114,7 @@ fn answer<'a, M: ArrivalModel>(
     cells: &mut [u16],
 ) -> Result<String, AllocError>
     ensures { IfOk result (λ s. (let q = question_of question.now in (x : ResultOf ℕ ℕ)
-        × Answer (meaning model.now) (table_of (closed_tasks table.now)) q.task q.jobs q.span (length cells.old) x
+        × Answer (M.meaning model.now) (table_of (closed_tasks table.now)) q.task q.jobs q.span (length cells.old) x
         × (string_bytes s ≡ answer_line q x))) }
 {
     let Question { task, jobs, span } = *question;
@@ -128,7 +128,7 @@ fn answers<'a, M: ArrivalModel>(
     model: &'a M,
     questions: &[Question],
 ) -> Result<String, AllocError>
-    ensures { IfOk result (λ s. AnswerLines (meaning model.now) (table_of (closed_tasks table.now)) (map question_of questions.now) (string_bytes s)) }
+    ensures { IfOk result (λ s. AnswerLines (M.meaning model.now) (table_of (closed_tasks table.now)) (map question_of questions.now) (string_bytes s)) }
 {
     let mut scratch = vec![in heap; 0u16; CELLS]?;
     let cells = scratch.as_mut_slice();

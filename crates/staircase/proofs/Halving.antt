@@ -1,6 +1,6 @@
 -- How many points are not above a number, from a place that parts them.
 use Rattle.std.proofs.Common.{◌≡◌, ℕ, zero, suc, ◌+◌, ◌<◌, ◌≤◌, true, cond, leb, List, [], ◌∷◌, length, get_or, sym, refl, ap, ◌∙◌, arith}
-use Rattle.std.proofs.lemmas.List.Sums.{sum_by_cons}
+use Rattle.std.proofs.lemmas.List.Sums.{sum_by-cons}
 use Rattle.std.proofs.lemmas.Bool.{and_parts, ltb-true, le-leb, lt-leb}
 use Rattle.staircase.specs.Stairs.{rises, up_to}
 
@@ -24,10 +24,10 @@ pub parted : (r m : ℕ) (ps : List ℕ) → m ≤ length ps → ((k : ℕ) → 
 parted r zero [] h low high = refl
 parted r (suc m) [] h low high = absurd (omega arith)
 parted r zero (p ∷ ps) h low high =
-    sum_by_cons (λ x. cond (leb x r) 1 0) p ps
+    sum_by-cons (λ x. cond (leb x r) 1 0) p ps
     ∙ (λ i. cond (lt-leb p r (high 0 (omega arith) (omega arith)) i) 1 0 + parted r 0 ps (omega arith) (λ k less. absurd (omega arith)) (λ k _ less. high (suc k) (omega arith) (omega arith)) i)
 parted r (suc m) (p ∷ ps) h low high =
-    sum_by_cons (λ x. cond (leb x r) 1 0) p ps
+    sum_by-cons (λ x. cond (leb x r) 1 0) p ps
     ∙ (λ i. cond (le-leb p r (low 0 (omega arith)) i) 1 0 + parted r m ps (omega arith) (λ k less. low (suc k) (omega arith)) (λ k from less. high (suc k) (omega arith) (omega arith)) i)
     ∙ omega arith
 

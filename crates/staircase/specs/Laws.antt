@@ -1,7 +1,7 @@
 -- The laws of staircases.
 use Rattle.std.specs.Prelude.{◌≡◌, ℕ, zero, suc, ◌+◌, ◌-◌, ◌*◌, ◌/◌, ◌%◌, ◌<◌, ◌≤◌, Bool, true, false, cond, ◌&&◌, leb, List, [], ◌∷◌, length, drop, ◌==◌, nat_le, refl}
 use Rattle.std.proofs.Common.{sym, ap, subst, ◌∙◌, ⊎_elim, div-mul-le_self, zero-mul, arith}
-use Rattle.std.proofs.lemmas.List.Sums.{sum_by_cons, count_by-le-length}
+use Rattle.std.proofs.lemmas.List.Sums.{sum_by-cons, count_by-le-length}
 use Rattle.std.proofs.lemmas.Nat.{div-add-mod', le-div, mul-le}
 use Rattle.std.proofs.lemmas.Bool.{cases_lt, cond_both, cond-true, cond-false, leb-true, leb-false, ltb-true, lt-ltb, eqb-true, le-leb, and_parts, and_from}
 use Rattle.arrival.specs.Meaning.{CurveLaws}
@@ -14,7 +14,7 @@ length-points zero bs = refl
 length-points (suc n) bs = ap suc (length-points n (drop 4 bs))
 
 up_to_cons : (r p : ℕ) (ps : List ℕ) → up_to r (p ∷ ps) ≡ cond (nat_le p r) 1 0 + up_to r ps
-up_to_cons r p ps = sum_by_cons (λ x. cond (nat_le x r) 1 0) p ps
+up_to_cons r p ps = sum_by-cons (λ x. cond (nat_le x r) 1 0) p ps
 
 -- lawful points rise strictly from above 0
 pub rises-from-ok : (repeat : ℕ) (ps : List ℕ) → points_ok repeat ps ≡ true → rises repeat 0 ps ≡ true

@@ -1,7 +1,7 @@
 -- The cells, filled in the order of their places, hold the greatest lengths of packed lists.
 use Rattle.std.proofs.Common.{◌≡◌, ℕ, suc, ◌+◌, ◌-◌, ◌%◌, ◌<◌, ◌≤◌, cond, List, [], ◌∷◌, length, count_by, sym, ◌∙◌, subst, inl, inr, arith}
 use Rattle.std.specs.List.{ContainsAt as Has, AllByRecursion as All}
-use Rattle.std.proofs.lemmas.List.Sums.{sum_by_cons}
+use Rattle.std.proofs.lemmas.List.Sums.{sum_by-cons}
 use Rattle.std.proofs.lemmas.Bool.{cases_eq, cases_Bool, cond-true, cond-false}
 use Rattle.theory.specs.Packings.{states}
 use Rattle.theory.specs.Search.{at}
@@ -12,7 +12,7 @@ use Rattle.theory.proofs.Radix.{states_positive, index_same, index_at, digit-wit
 use Rattle.theory.proofs.Totals.{total_le, total_add, total_part, total_same}
 
 counted : (t : ℕ → ℕ) (s c : ℕ) (ps : List ℕ) → count_by (λ x. member x (t s)) (c ∷ ps) ≡ cond (member c (t s)) 1 0 + count_by (λ x. member x (t s)) ps
-counted t s c ps = sum_by_cons (λ x. cond (member x (t s)) 1 0) c ps
+counted t s c ps = sum_by-cons (λ x. cond (member x (t s)) 1 0) c ps
 
 module _ (cs : List ℕ) (t : ℕ → ℕ) (n : ℕ) where
   pub most_same : (d e : ℕ → ℕ) → ((s : ℕ) → s < n → d s ≡ e s) → (v : ℕ) → Most cs t n d v → Most cs t n e v

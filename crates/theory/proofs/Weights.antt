@@ -3,7 +3,7 @@ use Rattle.std.proofs.Common.{◌≡◌, ℕ, zero, suc, ◌+◌, ◌^◌, ◌<�
 use Rattle.std.specs.List.{ContainsAt as Has, AllByRecursion as All}
 use Rattle.std.proofs.ByRecursion.{All-append, All-weaker}
 use Rattle.std.proofs.lemmas.List.{length-append, length-replicate, get_or_default}
-use Rattle.std.proofs.lemmas.List.Sums.{sum_by_cons, sum_by-append}
+use Rattle.std.proofs.lemmas.List.Sums.{sum_by-cons, sum_by-append}
 use Rattle.std.proofs.lemmas.Bool.{cases_eq, cases_Bool, cond-true, cond-false, lt-ltb, ne_eqb}
 use Rattle.theory.specs.Packings.{Greatest}
 use Rattle.theory.specs.Search.{Exactly}
@@ -21,7 +21,7 @@ count-replicate : (p : ℕ → Bool) (k x : ℕ) → count_by p (replicate k x) 
 count-replicate p zero x = elim (cases_Bool (p x)) [ inl e ↦ sym (cond-true (p x) 0 0 e) | inr e ↦ sym (cond-false (p x) 0 0 e) ]
 count-replicate p (suc k) x =
     let ih = count-replicate p k x in
-    let c = sum_by_cons (λ (y : ℕ). cond (p y) 1 0) x (replicate k x) in
+    let c = sum_by-cons (λ (y : ℕ). cond (p y) 1 0) x (replicate k x) in
     elim (cases_Bool (p x)) [
       | inl e ↦ omega (arith, cond-true {A = ℕ} (p x) 1 0 e, cond-true (p x) k 0 e, cond-true (p x) (suc k) 0 e)
       | inr e ↦ omega (arith, cond-false {A = ℕ} (p x) 1 0 e, cond-false (p x) k 0 e, cond-false (p x) (suc k) 0 e)
@@ -56,12 +56,12 @@ times-count p n (x ∷ ps) (h, hs) =
     omega (
       arith,
       total_same (λ m. cond (p m) (times (x ∷ ps) m) 0) (λ m. cond (p m) (cond (eqb x m) 1 0) 0 + cond (p m) (times ps m) 0) n
-          (λ m l. ap (λ z. cond (p m) z 0) (sum_by_cons (λ (y : ℕ). cond (eqb y m) 1 0) x ps) ∙ cond_add (p m) (cond (eqb x m) 1 0) (times ps m)),
+          (λ m l. ap (λ z. cond (p m) z 0) (sum_by-cons (λ (y : ℕ). cond (eqb y m) 1 0) x ps) ∙ cond_add (p m) (cond (eqb x m) 1 0) (times ps m)),
       total_add (λ m. cond (p m) (cond (eqb x m) 1 0) 0) (λ m. cond (p m) (times ps m) 0) n,
       hit_once p x n,
       ap (λ b. one_if (b && p x)) (lt-ltb x n h),
       times-count p n ps hs,
-      sum_by_cons (λ (y : ℕ). cond (p y) 1 0) x ps,
+      sum_by-cons (λ (y : ℕ). cond (p y) 1 0) x ps,
     )
 
 pub times-member : (P : ℕ → Type 0) (m : ℕ) (ps : List ℕ) → All P ps → 1 ≤ times ps m → P m
@@ -69,12 +69,12 @@ times-member P m [] h l = absurd (omega arith)
 times-member P m (x ∷ ps) (h, hs) l =
     elim (cases_eq x m) [
       | inl e ↦ subst P e h
-      | inr e ↦ times-member P m ps hs (omega (arith, sum_by_cons (λ (y : ℕ). cond (eqb y m) 1 0) x ps, cond-false {A = ℕ} (eqb x m) 1 0 (ne_eqb x m e)))
+      | inr e ↦ times-member P m ps hs (omega (arith, sum_by-cons (λ (y : ℕ). cond (eqb y m) 1 0) x ps, cond-false {A = ℕ} (eqb x m) 1 0 (ne_eqb x m e)))
     ]
 
 pub count-every : (ps : List ℕ) → count_by (λ _. true) ps ≡ length ps
 count-every [] = refl
-count-every (x ∷ ps) = omega (arith, sum_by_cons (λ (y : ℕ). cond {A = ℕ} true 1 0) x ps, count-every ps)
+count-every (x ∷ ps) = omega (arith, sum_by-cons (λ (y : ℕ). cond {A = ℕ} true 1 0) x ps, count-every ps)
 
 -- the two ways to say the greatest
 module _ (C source : ℕ → Type 0) (budget : ℕ → ℕ) (width : ℕ) (cs : List ℕ) (lists : Exactly C cs) (small : (m : ℕ) → C m → m < 2 ^ width)

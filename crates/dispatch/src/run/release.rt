@@ -21,7 +21,7 @@ impl Run {
         class: Class,
         work: u32,
     ) -> Result<(), Refusal>
-        ensures { let tests = release_tests (meaning model.now) self.now log.now task class work in
+        ensures { let tests = release_tests (M.meaning model.now) self.now log.now task class work in
             MatchResult result (λ _. Passed tests) (λ e. Refused tests (refusal_number e)) }
     {
         let tasks = task_count(&self.table);
@@ -52,7 +52,7 @@ impl Run {
         class: Class,
         work: u32,
     ) -> Result<usize, Refusal>
-        ensures { Released (meaning model.now) self.old log.old task class work result self.new log.new }
+        ensures { Released (M.meaning model.now) self.old log.old task class work result self.new log.new }
     {
         self.check_release(model, log, task, class, work)?;
         let at = self.entered;

@@ -16,10 +16,10 @@ pub returns : goal.returns
 returns c =
     let ts = closed_tasks c.args.table in
     let held = c.args.settings.now in
-    let lines = string_bytes c.in-ok-lines.lines in
+    let lines = string_bytes c.in_ok-lines.lines in
     let model = (λ i. chain (curves_meaning pjd_counts (c.model-model.ensures.first i)) (curves_meaning staircase_counts (c.model-model.ensures.second i))) ∙ model_meant ts held in (
       lines,
-      subst (λ qs. AnswerLines (model_of (settings_of ts held)) (table_of ts) (map question_of qs) lines) c.questions.ensures (subst (λ m. AnswerLines m (table_of ts) (map question_of c.questions.result.now) lines) model c.in-ok-lines.ensures),
-      c.in-ok-push-str.ensures.bytes
-          ∙ (λ i. (c.in-ok-text.ensures ∙ ap tasks_line (sym (length-map ts times_of))) i ++ c.as-str.ensures.value i),
+      subst (λ qs. AnswerLines (model_of (settings_of ts held)) (table_of ts) (map question_of qs) lines) c.questions.ensures (subst (λ m. AnswerLines m (table_of ts) (map question_of c.questions.result.now) lines) model c.in_ok-lines.ensures),
+      c.in_ok-push_str.ensures.bytes
+          ∙ (λ i. (c.in_ok-text.ensures ∙ ap tasks_line (sym (length-map ts times_of))) i ++ c.as_str.ensures.value i),
     )

@@ -10,11 +10,11 @@ use Rattle.report.specs.Lines.{AnswerLines}
 use Rattle.report.proofs.Printed.{lines_more}
 use Rattle.report.proofs.answers.Goals as goal
 
-pub returns-in-err-line : goal.returns-in-err-line
-returns-in-err-line g c = IfOk-from_err c.from-residual-in-err-line.result _ c.from-residual-in-err-line.ensures.0
+pub returns-in_err-line : goal.returns-in_err-line
+returns-in_err-line g c = IfOk-from_err c.from_residual-in_err-line.result _ c.from_residual-in_err-line.ensures.0
 
-pub returns-in-err-push-str : goal.returns-in-err-push-str
-returns-in-err-push-str g c = IfOk-from_err c.from-residual-in-err-push-str.result _ c.from-residual-in-err-push-str.ensures.0
+pub returns-in_err-push_str : goal.returns-in_err-push_str
+returns-in_err-push_str g c = IfOk-from_err c.from_residual-in_err-push_str.result _ c.from_residual-in_err-push_str.ensures.0
 
 pub loop-question-preserved : goal.loop-question-preserved
 loop-question-preserved g c =
@@ -24,12 +24,12 @@ loop-question-preserved g c =
     let i = c.loop-question.question-index in
     let blank : Question = record { task = 0; jobs = 0; span = 0 } in
     let q = question_of (get_or qs i blank) in
-    let (r, answered, line) = c.in-ok-line.ensures in
+    let (r, answered, line) = c.in_ok-line.ensures in
     let lines = string_bytes c.loop-question.lines in
     let more = lines_more m t (map question_of (take i qs)) q lines r c.loop-question.invariant.1 (subst (λ n. Answer m t q.task q.jobs q.span n r) c.loop-question.invariant.0 answered) in
-    let pushed = c.in-ok-push-str.ensures.bytes ∙ ap (λ bs. lines ++ bs) (c.as-str.ensures.value ∙ line) in (
+    let pushed = c.in_ok-push_str.ensures.bytes ∙ ap (λ bs. lines ++ bs) (c.as_str.ensures.value ∙ line) in (
       omega arith,
-      subst (λ qs. AnswerLines m t qs (string_bytes c.push-str.new.self)) (sym (map_more question_of qs i blank c.loop-question-test.true))
+      subst (λ qs. AnswerLines m t qs (string_bytes c.push_str.new.self)) (sym (map_more question_of qs i blank c.loop-question-test.true))
           (subst (AnswerLines m t _) (sym pushed) more),
     )
 

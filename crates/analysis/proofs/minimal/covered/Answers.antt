@@ -13,16 +13,16 @@ loop-smaller-preserved c =
     let set = c.args.set.now.mask in
     let x = c.loop-smaller.smaller-index in
     below_more (λ x. Subset (at (masks found) x) set → ⊥) x c.loop-smaller.invariant
-    (λ inside. both_ways _ c.if-is-subset.false (c.is-subset.ensures.1 (subst (λ s. Subset s set) (sym (mask_at found x)) inside)))
+    (λ inside. both_ways _ c.if-is_subset.false (c.is_subset.ensures.1 (subst (λ s. Subset s set) (sym (mask_at found x)) inside)))
 
 pub returns : goal.returns
 returns c =
     let long = length-map c.args.found.now (λ c. c.mask) in
     (λ e. absurd (false≢true e), λ (x, less, inside). absurd (c.loop-smaller.invariant x (omega arith) inside))
 
-pub returns-then-is-subset : goal.returns-then-is-subset
-returns-then-is-subset c =
+pub returns-then-is_subset : goal.returns-then-is_subset
+returns-then-is_subset c =
     let found = c.args.found.now in
     let x = c.loop-smaller.smaller-index in
     let long = length-map found (λ c. c.mask) in
-    (λ _. (x, omega arith, subst (λ s. Subset s c.args.set.now.mask) (mask_at found x) (c.if-is-subset.ensures.0 refl)), λ _. refl)
+    (λ _. (x, omega arith, subst (λ s. Subset s c.args.set.now.mask) (mask_at found x) (c.if-is_subset.ensures.0 refl)), λ _. refl)

@@ -18,8 +18,8 @@ loop-set-preserved g c =
     let l = c.args.level.now in
     let fails = Fails (g.M.ArrivalModel.meaning l.model.now) (table_of l.tasks.now) l.task in
     let source = source_of c.args.sources.now in
-    let items = c.as-slice-set-items.result.now in
-    let subs = subst (λ cs. Subsets source (masks cs)) (sym c.as-slice-set-items.ensures) c.subsets-sets.ensures in
+    let items = c.as_slice-set-items.result.now in
+    let subs = subst (λ cs. Subsets source (masks cs)) (sym c.as_slice-set-items.ensures) c.subsets-sets.ensures in
     let ms = masks items in
     let fs = masks (held c.loop-set.found) in
     let p = c.loop-set.set-index in
@@ -28,12 +28,12 @@ loop-set-preserved g c =
     let long = length-map items (λ c. c.mask) in
     let inside : p < length ms = omega arith in
     let covered : Decides c.covered.result (Covered fs (at ms p))
-    = subst (λ s. Decides c.covered.result (Covered fs s)) is (subst (λ cs. Decides c.covered.result (Covered (masks cs) set.mask)) c.as-slice.ensures c.covered.ensures) in
+    = subst (λ s. Decides c.covered.result (Covered fs s)) is (subst (λ cs. Decides c.covered.result (Covered (masks cs) set.mask)) c.as_slice.ensures c.covered.ensures) in
     elim c.if-not-covered.branch [
       | then-not-covered+then-fails w ↦
           let new = w.push.new.self in
           let room : length (held c.loop-set.found) < 64
-          = omega (arith, c.loop-set.invariant.short, length-map (held c.loop-set.found) (λ c. c.mask), ap length c.as-slice-set-items.ensures, length-held c.subsets-sets.result, c.subsets-sets.result.within) in
+          = omega (arith, c.loop-set.invariant.short, length-map (held c.loop-set.found) (λ c. c.mask), ap length c.as_slice-set-items.ensures, length-held c.subsets-sets.result, c.subsets-sets.result.within) in
           let pushed = held_push c.loop-set.found new set w.push.result w.push.ensures.value w.push.ensures.after room in
           let more = masks_push (held c.loop-set.found) (held new) set pushed.0 ∙ ap (λ s. fs ++ s ∷ []) is in
           subst (Found fails source ms (p + 1)) (sym (ap (λ l. masks (held l)) w.found-is ∙ more))
@@ -51,8 +51,8 @@ returns g c =
     let l = c.args.level.now in
     let fails = Fails (g.M.ArrivalModel.meaning l.model.now) (table_of l.tasks.now) l.task in
     let source = source_of c.args.sources.now in
-    let items = c.as-slice-set-items.result.now in
-    let subs = subst (λ cs. Subsets source (masks cs)) (sym c.as-slice-set-items.ensures) c.subsets-sets.ensures in
+    let items = c.as_slice-set-items.result.now in
+    let subs = subst (λ cs. Subsets source (masks cs)) (sym c.as_slice-set-items.ensures) c.subsets-sets.ensures in
     let fs = masks (held c.loop-set.found) in
     let end : c.loop-set.set-index ≡ length (masks items) = omega (arith, length-map items (λ c. c.mask)) in
     found_all fails source (masks items) subs fs (subst (λ n. Found fails source (masks items) n fs) end c.loop-set.invariant)

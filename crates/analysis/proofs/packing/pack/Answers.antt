@@ -10,26 +10,26 @@ loop-place-preserved c =
     let ss = c.args.sources.now in
     let cells = c.loop-place.cells in
     let p = c.loop-place.place in
-    let within : p < states_of ss = omega (arith, c.states-of-states.ensures) in
+    let within : p < states_of ss = omega (arith, c.states_of-states.ensures) in
     let room : states_of ss ≤ length cells = omega (arith, c.requires.room, c.loop-place.auto.cells) in (
       write (masks c.args.combinations.now) ss c.requires.sources c.requires.takes cells p within c.loop-place.invariant.0 c.best.result room c.best.ensures,
       drop-set-lt (states_of ss) cells p c.best.result within ∙ c.loop-place.invariant.1,
     )
 
-pub overflow-sub-result : goal.overflow-sub-result
-overflow-sub-result c = omega (arith, c.states-of-states.ensures, states_positive (budget_of c.args.sources.now) (length c.args.sources.now))
+pub overflow_sub-result : goal.overflow_sub-result
+overflow_sub-result c = omega (arith, c.states_of-states.ensures, states_positive (budget_of c.args.sources.now) (length c.args.sources.now))
 
 pub bounds-cells-states : goal.bounds-cells-states
 bounds-cells-states c =
-    omega (arith, c.states-of-states.ensures, c.requires.room, c.loop-place.auto.cells, states_positive (budget_of c.args.sources.now) (length c.args.sources.now))
+    omega (arith, c.states_of-states.ensures, c.requires.room, c.loop-place.auto.cells, states_positive (budget_of c.args.sources.now) (length c.args.sources.now))
 
 pub returns : goal.returns
 returns c =
     let cs = masks c.args.combinations.now in
     let ss = c.args.sources.now in
     let cells = c.loop-place.cells in
-    let end : c.loop-place.place ≡ states_of ss = omega (arith, c.states-of-states.ensures, c.loop-place.auto.place-end) in
+    let end : c.loop-place.place ≡ states_of ss = omega (arith, c.states_of-states.ensures, c.loop-place.auto.place-end) in
     record {
-      most = subst (λ x. MostOf cs ss (budget_of ss) (get_or cells (x - 1) 0)) (sym c.states-of-states.ensures) (last cs ss cells (subst (CellsFilled cs ss cells) end c.loop-place.invariant.0));
+      most = subst (λ x. MostOf cs ss (budget_of ss) (get_or cells (x - 1) 0)) (sym c.states_of-states.ensures) (last cs ss cells (subst (CellsFilled cs ss cells) end c.loop-place.invariant.0));
       kept = c.loop-place.invariant.1;
     }

@@ -4,8 +4,8 @@ use Rattle.analysis.specs.Sources.{budget_of}
 use Rattle.analysis.proofs.Bounds.{states-fits}
 use Rattle.analysis.proofs.packing.states_of.Goals as goal
 
-pub overflow-mul-states : goal.overflow-mul-states
-overflow-mul-states c =
+pub overflow_mul-states : goal.overflow_mul-states
+overflow_mul-states c =
     let ss = c.args.sources.now in
     let s = c.loop-source.source-index in
     let same = ap (λ x. x * (budget_of ss s + 1)) c.loop-source.invariant in

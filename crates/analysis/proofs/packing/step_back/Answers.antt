@@ -11,14 +11,14 @@ use Rattle.analysis.proofs.packing.step_back.Goals.{then-contains+else-rest-radi
 pub loop-source-init : goal.loop-source-init
 loop-source-init c = (refl, omega arith, sym (total_none _), λ s less. absurd (omega arith))
 
-pub overflow-add-back : goal.overflow-add-back
-overflow-add-back c =
+pub overflow_add-back : goal.overflow_add-back
+overflow_add-back c =
     let ss = c.args.sources.now in
     let s = c.loop-source.source-index in
     omega (arith, c.loop-source.invariant.0, c.loop-source.invariant.2, states-fits ss c.requires s (omega arith), offset-fits ss c.requires c.args.set.now.mask s (omega arith), c.requires.few)
 
-pub overflow-mul-stride : goal.overflow-mul-stride
-overflow-mul-stride c =
+pub overflow_mul-stride : goal.overflow_mul-stride
+overflow_mul-stride c =
     let ss = c.args.sources.now in
     let s = c.loop-source.source-index in
     let same = ap (λ x. x * (budget_of ss s + 1)) c.loop-source.invariant.0 in

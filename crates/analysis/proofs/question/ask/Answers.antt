@@ -36,32 +36,32 @@ counted m k i reach reached there =
 few-held : (f : BoundedList Source 6) (ss : List Source) → ss ≡ held f → length ss ≤ 6
 few-held f ss same = omega (arith, ap length same, length-held f, f.within)
 
-pub invariant-of-level : goal.invariant-of-level
-invariant-of-level g c =
+pub invariant_of-level : goal.invariant_of-level
+invariant_of-level g c =
     let held = task_count _ (closed_tasks c.args.table.now) c.tasks.ensures.value in
-    (c.tasks.ensures.high-bound, omega (arith, c.in-ok-check-task.ensures.1))
+    (c.tasks.ensures.high_bound, omega (arith, c.in_ok-check_task.ensures.1))
 
-pub returns-in-err-longest : goal.returns-in-err-longest
-returns-in-err-longest g c =
+pub returns-in_err-longest : goal.returns-in_err-longest
+returns-in_err-longest g c =
     let m = g.M.ArrivalModel.meaning c.args.model.now in
     let same = c.tasks.ensures.value in
-    let fits = on_held m _ (closed_tasks c.args.table.now) c.args.task same c.in-ok-check-task.ensures in
-    let p = err_from_is_err_and c.from-residual-in-err-longest.result c.from-residual-in-err-longest.ensures.1 in
-    let asked = asked_window m (table_of c.tasks.result.now) c.args.task c.args.jobs c.args.span fits c.in-ok-check-range.ensures
-    (refusal_number c.in-err-longest.field-0.0) c.in-err-longest.ensures c.args.cells.now in
-    let there = subst (λ ts. Asked m (table_of ts) c.args.task c.args.jobs c.args.span c.args.cells.now (Err (refusal_number c.in-err-longest.field-0.0)) c.args.cells.now) same asked in
+    let fits = on_held m _ (closed_tasks c.args.table.now) c.args.task same c.in_ok-check_task.ensures in
+    let p = err_from_is_err_and c.from_residual-in_err-longest.result c.from_residual-in_err-longest.ensures.1 in
+    let asked = asked_window m (table_of c.tasks.result.now) c.args.task c.args.jobs c.args.span fits c.in_ok-check_range.ensures
+    (refusal_number c.in_err-longest.field-0.0) c.in_err-longest.ensures c.args.cells.now in
+    let there = subst (λ ts. Asked m (table_of ts) c.args.task c.args.jobs c.args.span c.args.cells.now (Err (refusal_number c.in_err-longest.field-0.0)) c.args.cells.now) same asked in
     let told = subst (λ r. Asked m (table_of (closed_tasks c.args.table.now)) c.args.task c.args.jobs c.args.span c.args.cells.now (in_numbers (λ a. a) refusal_number r) c.args.cells.now)
     (sym (p.1 ∙ ap Err p.2)) there in
-    let none : (P : ℕ → Type 0) → IfOk c.from-residual-in-err-longest.result P = λ P. subst (λ r. IfOk r P) (sym p.1) tt in
+    let none : (P : ℕ → Type 0) → IfOk c.from_residual-in_err-longest.result P = λ P. subst (λ r. IfOk r P) (sym p.1) tt in
     record { answer = told.0; executions = none _; exchange = none _; cells = told.1 }
 
 pub returns-then-late-eq0 : goal.returns-then-late-eq0
 returns-then-late-eq0 g c =
     let m = g.M.ArrivalModel.meaning c.args.model.now in
     let same = c.tasks.ensures.value in
-    let fits = on_held m _ (closed_tasks c.args.table.now) c.args.task same c.in-ok-check-task.ensures in
-    let asked = asked_none m (table_of c.tasks.result.now) c.args.task c.args.jobs c.args.span c.in-ok-longest.longest c.late-positions-late.result fits
-    c.in-ok-check-range.ensures c.in-ok-longest.ensures c.late-positions-late.ensures c.if-late-eq0.true c.args.cells.now in
+    let fits = on_held m _ (closed_tasks c.args.table.now) c.args.task same c.in_ok-check_task.ensures in
+    let asked = asked_none m (table_of c.tasks.result.now) c.args.task c.args.jobs c.args.span c.in_ok-longest.longest c.late_positions-late.result fits
+    c.in_ok-check_range.ensures c.in_ok-longest.ensures c.late_positions-late.ensures c.if-late-eq0.true c.args.cells.now in
     let there = subst (λ ts. Asked m (table_of ts) c.args.task c.args.jobs c.args.span c.args.cells.now (Ok 0) c.args.cells.now) same asked in
     let lawful : Lawful m = record {
       zero_at_zero = g.M.ArrivalModel.zero_at_zero c.args.model.now;
@@ -77,29 +77,29 @@ returns-then-late-eq0 g c =
       cells = there.1;
     }
 
-pub returns-in-default : goal.returns-in-default
-returns-in-default g c =
+pub returns-in_default : goal.returns-in_default
+returns-in_default g c =
     let m = g.M.ArrivalModel.meaning c.args.model.now in
     let same = c.tasks.ensures.value in
-    let fits = on_held m _ (closed_tasks c.args.table.now) c.args.task same c.in-ok-check-task.ensures in
+    let fits = on_held m _ (closed_tasks c.args.table.now) c.args.task same c.in_ok-check_task.ensures in
     let many = counted m c.args.jobs c.args.task c.reach.result _ c.reach.ensures in
-    let asked = asked_sources m (table_of c.tasks.result.now) c.args.task c.args.jobs c.args.span c.in-ok-longest.longest c.late-positions-late.result fits
-    c.in-ok-check-range.ensures c.in-ok-longest.ensures c.late-positions-late.ensures (omega (arith, c.if-late-eq0.false))
-    (omega (arith, many, c.in-default.ensures)) c.args.cells.now in
+    let asked = asked_sources m (table_of c.tasks.result.now) c.args.task c.args.jobs c.args.span c.in_ok-longest.longest c.late_positions-late.result fits
+    c.in_ok-check_range.ensures c.in_ok-longest.ensures c.late_positions-late.ensures (omega (arith, c.if-late-eq0.false))
+    (omega (arith, many, c.in_default.ensures)) c.args.cells.now in
     let there = subst (λ ts. Asked m (table_of ts) c.args.task c.args.jobs c.args.span c.args.cells.now (Err 37) c.args.cells.now) same asked in
     record { answer = there.0; executions = tt; exchange = tt; cells = there.1 }
 
-pub returns-then-states-of-cells : goal.returns-then-states-of-cells
-returns-then-states-of-cells g c =
+pub returns-then-states_of-cells : goal.returns-then-states_of-cells
+returns-then-states_of-cells g c =
     let m = g.M.ArrivalModel.meaning c.args.model.now in
     let same = c.tasks.ensures.value in
-    let fits = on_held m _ (closed_tasks c.args.table.now) c.args.task same c.in-ok-check-task.ensures in
-    let ss = c.as-slice-sources.result.now in
-    let got = gathered m c.args.jobs c.args.task c.reach.result _ ss (held c.in-Some.found) c.as-slice-sources.ensures c.reach.ensures c.in-Some.ensures in
-    let asked = asked_cells m (table_of c.tasks.result.now) c.args.task c.args.jobs c.args.span c.in-ok-longest.longest c.late-positions-late.result fits
-    c.in-ok-check-range.ensures c.in-ok-longest.ensures c.late-positions-late.ensures (omega (arith, c.if-late-eq0.false))
-    (omega (arith, got.counted, few-held c.in-Some.found ss c.as-slice-sources.ensures)) c.args.cells.now
-    (omega (arith, c.states_of.ensures, got.cells, c.if-states-of-cells.true)) in
+    let fits = on_held m _ (closed_tasks c.args.table.now) c.args.task same c.in_ok-check_task.ensures in
+    let ss = c.as_slice-sources.result.now in
+    let got = gathered m c.args.jobs c.args.task c.reach.result _ ss (held c.in-Some.found) c.as_slice-sources.ensures c.reach.ensures c.in-Some.ensures in
+    let asked = asked_cells m (table_of c.tasks.result.now) c.args.task c.args.jobs c.args.span c.in_ok-longest.longest c.late_positions-late.result fits
+    c.in_ok-check_range.ensures c.in_ok-longest.ensures c.late_positions-late.ensures (omega (arith, c.if-late-eq0.false))
+    (omega (arith, got.counted, few-held c.in-Some.found ss c.as_slice-sources.ensures)) c.args.cells.now
+    (omega (arith, c.states_of.ensures, got.cells, c.if-states_of-cells.true)) in
     let there = subst (λ ts. Asked m (table_of ts) c.args.task c.args.jobs c.args.span c.args.cells.now (Err 38) c.args.cells.now) same asked in
     record { answer = there.0; executions = tt; exchange = tt; cells = there.1 }
 
@@ -107,16 +107,16 @@ pub returns : goal.returns
 returns g c =
     let m = g.M.ArrivalModel.meaning c.args.model.now in
     let same = c.tasks.ensures.value in
-    let fits = on_held m _ (closed_tasks c.args.table.now) c.args.task same c.in-ok-check-task.ensures in
-    let ss = c.as-slice-sources.result.now in
-    let got = gathered m c.args.jobs c.args.task c.reach.result _ ss (held c.in-Some.found) c.as-slice-sources.ensures c.reach.ensures c.in-Some.ensures in
-    let G = c.greatest-packing-windows.result in
-    let after = c.greatest-packing-windows.new.cells in
-    let asked = asked_bound m (table_of c.tasks.result.now) c.args.task c.args.jobs c.args.span c.in-ok-longest.longest c.late-positions-late.result fits
-    c.in-ok-check-range.ensures c.in-ok-longest.ensures c.late-positions-late.ensures (omega (arith, c.if-late-eq0.false))
-    (omega (arith, got.counted, few-held c.in-Some.found ss c.as-slice-sources.ensures)) c.args.cells.now after
-    (omega (arith, c.states_of.ensures, got.cells, c.if-states-of-cells.false)) G c.bound.result (c.greatest-packing-windows.ensures.greatest _ got) c.bound.ensures
-    (subst (λ n. drop n after ≡ drop n c.args.cells.now) got.cells c.greatest-packing-windows.ensures.kept) in
+    let fits = on_held m _ (closed_tasks c.args.table.now) c.args.task same c.in_ok-check_task.ensures in
+    let ss = c.as_slice-sources.result.now in
+    let got = gathered m c.args.jobs c.args.task c.reach.result _ ss (held c.in-Some.found) c.as_slice-sources.ensures c.reach.ensures c.in-Some.ensures in
+    let G = c.greatest_packing-windows.result in
+    let after = c.greatest_packing-windows.new.cells in
+    let asked = asked_bound m (table_of c.tasks.result.now) c.args.task c.args.jobs c.args.span c.in_ok-longest.longest c.late_positions-late.result fits
+    c.in_ok-check_range.ensures c.in_ok-longest.ensures c.late_positions-late.ensures (omega (arith, c.if-late-eq0.false))
+    (omega (arith, got.counted, few-held c.in-Some.found ss c.as_slice-sources.ensures)) c.args.cells.now after
+    (omega (arith, c.states_of.ensures, got.cells, c.if-states_of-cells.false)) G c.bound.result (c.greatest_packing-windows.ensures.greatest _ got) c.bound.ensures
+    (subst (λ n. drop n after ≡ drop n c.args.cells.now) got.cells c.greatest_packing-windows.ensures.kept) in
     let there = subst (λ ts. Asked m (table_of ts) c.args.task c.args.jobs c.args.span c.args.cells.now (Ok c.bound.result) after) same asked in
     let lawful : Lawful m = record {
       zero_at_zero = g.M.ArrivalModel.zero_at_zero c.args.model.now;

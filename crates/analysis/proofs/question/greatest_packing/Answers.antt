@@ -12,16 +12,16 @@ pack-requires g c =
     let l = c.args.level.now in
     let fails = Fails (g.M.ArrivalModel.meaning l.model.now) (table_of l.tasks.now) l.task in
     let ss = c.args.sources.now in
-    let lists = subst (λ cs. Exactly (Minimal fails (source_of ss)) (masks cs)) (sym c.as-slice.ensures) c.minimal-combinations.ensures in
-    record { sources = c.requires.sources; takes = takes fails ss (masks c.as-slice.result.now) lists c.requires.safe; room = c.requires.room }
+    let lists = subst (λ cs. Exactly (Minimal fails (source_of ss)) (masks cs)) (sym c.as_slice.ensures) c.minimal-combinations.ensures in
+    record { sources = c.requires.sources; takes = takes fails ss (masks c.as_slice.result.now) lists c.requires.safe; room = c.requires.room }
 
 pub returns : goal.returns
 returns g c =
     let l = c.args.level.now in
     let fails = Fails (g.M.ArrivalModel.meaning l.model.now) (table_of l.tasks.now) l.task in
     let ss = c.args.sources.now in
-    let lists = subst (λ cs. Exactly (Minimal fails (source_of ss)) (masks cs)) (sym c.as-slice.ensures) c.minimal-combinations.ensures in
+    let lists = subst (λ cs. Exactly (Minimal fails (source_of ss)) (masks cs)) (sym c.as_slice.ensures) c.minimal-combinations.ensures in
     record {
-      greatest = λ b got. final fails ss (masks c.as-slice.result.now) lists b l.task got c.pack.result c.pack.ensures.most;
+      greatest = λ b got. final fails ss (masks c.as_slice.result.now) lists b l.task got c.pack.result c.pack.ensures.most;
       kept = c.pack.ensures.kept;
     }

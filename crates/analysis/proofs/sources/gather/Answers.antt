@@ -20,12 +20,12 @@ loop-task-preserved g c =
     let after = c.if-budget-gt0.found in
     elim c.if-budget-gt0.branch [
       | then-budget-gt0+else-not-push w ↦
-          let x : Source = record { task = j; budget = c.budget-of-budget.result } in
-          let more = gathered_more b j ss c.loop-task.invariant x refl c.budget-of-budget.ensures w.if-budget-gt0.true in
+          let x : Source = record { task = j; budget = c.budget_of-budget.result } in
+          let more = gathered_more b j ss c.loop-task.invariant x refl c.budget_of-budget.ensures w.if-budget-gt0.true in
           let pushed = w.push.ensures.after ∙ cond-true w.push.result (ss ++ x ∷ []) ss w.if-not-push.false in
           subst (λ n. Gathered b n (held after)) (sym (add-one j)) (subst (Gathered b (suc j)) (sym (ap held w.found-is ∙ pushed)) more)
       | else-budget-gt0 w ↦
-          let none : b j ≡ 0 = omega (arith, c.budget-of-budget.ensures, w.if-budget-gt0.false) in
+          let none : b j ≡ 0 = omega (arith, c.budget_of-budget.ensures, w.if-budget-gt0.false) in
           subst (λ n. Gathered b n (held after)) (sym (add-one j)) (subst (Gathered b (suc j)) (sym (ap held w.found-is)) (gathered_skip b j ss c.loop-task.invariant none))
     ]
 
@@ -34,7 +34,7 @@ returns-then-not-push g c =
     let b = budget_within (g.M.ArrivalModel.meaning c.args.model.now) c.args.k c.args.reach in
     let ss = held c.loop-task.found in
     let full = ltb-false (length ss) 6 (sym c.push.ensures.value ∙ c.if-not-push.true) in
-    too_many b c.loop-task.task ss c.loop-task.invariant (omega (arith, c.budget-of-budget.ensures, c.if-budget-gt0.true)) full c.args.n c.loop-task-test.true
+    too_many b c.loop-task.task ss c.loop-task.invariant (omega (arith, c.budget_of-budget.ensures, c.if-budget-gt0.true)) full c.args.n c.loop-task-test.true
 
 pub returns : goal.returns
 returns g c =

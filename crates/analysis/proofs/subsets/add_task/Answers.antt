@@ -7,7 +7,7 @@ use Rattle.loads.specs.declared.combination.Combination.{Combination}
 use Rattle.analysis.specs.Sources.{masks}
 use Rattle.analysis.proofs.Steps.{added_more}
 use Rattle.analysis.proofs.subsets.add_task.Goals as goal
-use Rattle.analysis.proofs.subsets.add_task.Goals.{in-Some, in-default}
+use Rattle.analysis.proofs.subsets.add_task.Goals.{in-Some, in_default}
 
 pub loop-place-preserved : goal.loop-place-preserved
 loop-place-preserved c =
@@ -24,9 +24,9 @@ loop-place-preserved c =
             ap (λ l. masks (held l)) w.sets-is
                 ∙ added_more c.args.task c.requires.0 old mid (held new) c.requires.1.1 p within less c.loop-place.invariant.1 w.in-Some.set w.with.result w.in-Some.ensures w.with.ensures pushed.0,
           )
-      | in-default w ↦
+      | in_default w ↦
           let none : Combination = record { mask = 0 } in
-          absurd (w.in-default.not-Some (get_or mid p none) (c.get.ensures ∙ slice_get-get_or mid p none less))
+          absurd (w.in_default.not-Some (get_or mid p none) (c.get.ensures ∙ slice_get-get_or mid p none less))
     ]
 
 pub returns : goal.returns

@@ -20,8 +20,8 @@ loop-source-init c =
 apart_less : (t : ℕ → ℕ) (n s : ℕ) → s < n → Apart t n → Apart t (suc s)
 apart_less t n s h apart p q l k e = apart p q (omega arith) (omega arith) e
 
-pub add-task-requires : goal.add-task-requires
-add-task-requires c =
+pub add_task-requires : goal.add_task-requires
+add_task-requires c =
     let ss = c.args.sources.now in
     let s = c.loop-source.source-index in
     let apart = apart_less (task_of ss) (length ss) s c.loop-source-test.true c.requires.apart in
@@ -36,7 +36,7 @@ loop-source-preserved c =
     let s = c.loop-source.source-index in
     let apart = apart_less (task_of ss) (length ss) s c.loop-source-test.true c.requires.apart in
     let more = first_more (task_of ss) s apart (masks (held c.loop-source.sets)) c.loop-source.invariant.1 in
-    let after = masks (held c.add-task.new.sets) in (
-      omega (arith, c.add-task.ensures.len, pow-succ' 2 s, ap (λ n. 2 ^ n) (add-one s)),
-      subst (λ n. First (task_of ss) n after) (sym (add-one s)) (subst (First (task_of ss) (suc s)) (sym c.add-task.ensures.sets) more),
+    let after = masks (held c.add_task.new.sets) in (
+      omega (arith, c.add_task.ensures.len, pow-succ' 2 s, ap (λ n. 2 ^ n) (add-one s)),
+      subst (λ n. First (task_of ss) n after) (sym (add-one s)) (subst (First (task_of ss) (suc s)) (sym c.add_task.ensures.sets) more),
     )

@@ -3,7 +3,7 @@ use Rattle.tables.specs.Tables.{closed_tasks}
 use Rattle.analysis.proofs.Windows.{task_count}
 use Rattle.analysis.proofs.window.busy_window.Goals as goal
 
-pub invariant-of-level : goal.invariant-of-level
-invariant-of-level g c =
+pub invariant_of-level : goal.invariant_of-level
+invariant_of-level g c =
     let held = task_count _ (closed_tasks c.args.table.now) c.tasks.ensures.value in
-    (c.tasks.ensures.high-bound, omega (arith, c.in-ok-check-task.ensures.1))
+    (c.tasks.ensures.high_bound, omega (arith, c.in_ok-check_task.ensures.1))

@@ -11,5 +11,5 @@ returns c =
       value =
           c.deadline.ensures.value ∙ sym (ap deadline_in (times_read c.tasks.result.now c.args.task c.index-tasks-task.result held c.index-tasks-task.is))
           ∙ ap (λ ts. (table_of ts).deadline c.args.task) same;
-      bound = c.deadline.ensures.high-bound;
+      bound = c.deadline.ensures.high_bound;
     }

@@ -8,8 +8,8 @@ pub loop-i-init : goal.loop-i-init
 loop-i-init g c =
     allowed-none ((g.M.ArrivalModel.meaning c.args.model.now).count c.args.task c.args.class) c.args.clock (is_kind c.args.task c.args.class) c.args.log.now
 
-pub overflow-add-same : goal.overflow-add-same
-overflow-add-same g c = omega (arith, c.loop-i.invariant.few)
+pub overflow_add-same : goal.overflow_add-same
+overflow_add-same g c = omega (arith, c.loop-i.invariant.few)
 
 pub returns-then-not-within : goal.returns-then-not-within
 returns-then-not-within g c =

@@ -14,15 +14,15 @@ returns-in-None c =
     let t = task_at c.args.log.now in
     first_alone w t c.args.i (omega arith) (subst (Served c.args.i w t) c.in-None.is c.requires.before)
 
-pub returns-then-goes-before : goal.returns-then-goes-before
-returns-then-goes-before c =
+pub returns-then-goes_before : goal.returns-then-goes_before
+returns-then-goes_before c =
     let w = waits c.args.log.now in
     let t = task_at c.args.log.now in
     let less : t c.args.i < t c.in-Some.b = ltb-true (t c.args.i) (t c.in-Some.b) (cc) in
     first_takes w t c.args.i (subst (Served c.args.i w t) c.in-Some.is c.requires.before) (omega arith) less
 
-pub returns-else-goes-before : goal.returns-else-goes-before
-returns-else-goes-before c =
+pub returns-else-goes_before : goal.returns-else-goes_before
+returns-else-goes_before c =
     let w = waits c.args.log.now in
     let t = task_at c.args.log.now in
     let most : t c.in-Some.b ≤ t c.args.i = ltb-false (t c.args.i) (t c.in-Some.b) (cc) in

@@ -11,7 +11,7 @@ use Rattle.analysis.proofs.level.Level.unschedulable.Goals as goal
 pub unreachable-requires : goal.unreachable-requires
 unreachable-requires g c =
     let l = c.args.self.now in
-    c.in-default.ensures c.args.longest (omega arith)
+    c.in_default.ensures c.args.longest (omega arith)
     (serves-within (g.M.ArrivalModel.meaning l.model.now) (g.M.ArrivalModel.monotone l.model.now) (table_of l.tasks.now) l.task (member c.args.set.now.mask)
     every (λ _ _. refl) c.args.longest (omega (arith, c.requires.short)) c.requires.longest.0)
 
@@ -19,7 +19,7 @@ pub loop-earlier-preserved : goal.loop-earlier-preserved
 loop-earlier-preserved g c =
     let l = c.args.self.now in
     below_more (λ p. LatePosition (g.M.ArrivalModel.meaning l.model.now) (table_of l.tasks.now) l.task (member c.args.set.now.mask) (p + 1) → ⊥)
-    c.loop-earlier.earlier c.loop-earlier.invariant (not_from_Decides c.is_late.result c.is_late.ensures c.if-is-late.false)
+    c.loop-earlier.earlier c.loop-earlier.invariant (not_from_Decides c.is_late.result c.is_late.ensures c.if-is_late.false)
 
 pub returns : goal.returns
 returns g c =

@@ -23,24 +23,24 @@ next r n b = after (entries r.file.now curves_entry 2 [] n b) (behind_curves r.f
 ended : (r : Reader) → r.due ≡ 0 → go_in Tasks r ≡ after (count r.file.now 2 14 (ok r) r.at) (next r)
 ended r e = ap (λ o. after o (behind_tasks r.file.now)) (entry_none r.file.now task_entry 1 (so_far r).tasks r.at r.due e)
 
-pub returns-in-err-n : goal.returns-in-err-n
-returns-in-err-n c =
+pub returns-in_err-n : goal.returns-in_err-n
+returns-in_err-n c =
     let r = c.args.self.now in
-    open_breaks r Tasks c.requires.1 2 14 (ok r) (next r) (ended r c.requires.2) _ _ c.in-err-n.field-0.0 c.in-err-n.ensures c.from-residual.ensures.1
+    open_breaks r Tasks c.requires.1 2 14 (ok r) (next r) (ended r c.requires.2) _ _ c.in_err-n.field-0.0 c.in_err-n.ensures c.from_residual.ensures.1
 
 pub returns-then-n-len : goal.returns-then-n-len
 returns-then-n-len c =
     let r = c.args.self.now in
-    open_refuses r Tasks c.requires.1 2 14 (ok r) (next r) (ended r c.requires.2) c.in-ok-n.n c.in-ok-n.ensures c.from.result
+    open_refuses r Tasks c.requires.1 2 14 (ok r) (next r) (ended r c.requires.2) c.in_ok-n.n c.in_ok-n.ensures c.from.result
     (lt-leb _ _ (omega (arith, c.if-n-len.true, c.len.ensures.value, length-map (held r.tasks) times_of)))
     (fault_is c.from.result cause.CurveCount _ c.from.ensures.0 (c.from.ensures.1 ∙ c.new.ensures))
 
 pub returns : goal.returns
 returns c =
     let r = c.args.self.now in
-    let n = c.in-ok-n.n in
+    let n = c.in_ok-n.n in
     let room = room_in r Tasks c.requires.0 c.requires.1 in
-    let told = c.in-ok-n.ensures in
+    let told = c.in_ok-n.ensures in
     open_moves r Tasks c.requires.1 2 14 (ok r) (next r) (ended r c.requires.2) n told _ Curves refl told.0
     (omega (arith, room.0, c.requires.2), omega (arith, room.1), omega (arith, room.2, c.if-n-len.false, c.len.ensures.value), room.3, room.4)
     (le-leb _ _ (omega (arith, c.if-n-len.false, c.len.ensures.value, length-map (held r.tasks) times_of)))

@@ -25,26 +25,26 @@ ended r e =
     ap (λ o. after o (behind_staircases r.file.now (so_far r).tasks (so_far r).curves))
     (entry_none r.file.now staircase_entry 3 (so_far r).staircases r.at (2 * r.due) (omega arith))
 
-pub returns-in-err-n : goal.returns-in-err-n
-returns-in-err-n c =
+pub returns-in_err-n : goal.returns-in_err-n
+returns-in_err-n c =
     let r = c.args.self.now in
-    open_breaks r Typical c.requires.1 4 19 ok (next r) (ended r c.requires.2) _ _ c.in-err-n.field-0.0 c.in-err-n.ensures c.from-residual.ensures.1
+    open_breaks r Typical c.requires.1 4 19 ok (next r) (ended r c.requires.2) _ _ c.in_err-n.field-0.0 c.in_err-n.ensures c.from_residual.ensures.1
 
-pub returns-then-n-gt-MAX-QUESTIONS : goal.returns-then-n-gt-MAX-QUESTIONS
-returns-then-n-gt-MAX-QUESTIONS c =
+pub returns-then-n-gt-MAX_QUESTIONS : goal.returns-then-n-gt-MAX_QUESTIONS
+returns-then-n-gt-MAX_QUESTIONS c =
     let r = c.args.self.now in
-    open_refuses r Typical c.requires.1 4 19 ok (next r) (ended r c.requires.2) c.in-ok-n.n c.in-ok-n.ensures c.from.result
-    (lt-leb _ _ c.if-n-gt-MAX-QUESTIONS.true)
+    open_refuses r Typical c.requires.1 4 19 ok (next r) (ended r c.requires.2) c.in_ok-n.n c.in_ok-n.ensures c.from.result
+    (lt-leb _ _ c.if-n-gt-MAX_QUESTIONS.true)
     (fault_is c.from.result cause.QuestionCount _ c.from.ensures.0 (c.from.ensures.1 ∙ c.new.ensures))
 
 pub returns : goal.returns
 returns c =
     let r = c.args.self.now in
-    let n = c.in-ok-n.n in
+    let n = c.in_ok-n.n in
     let room = room_in r Typical c.requires.0 c.requires.1 in
-    let told = c.in-ok-n.ensures in
+    let told = c.in_ok-n.ensures in
     open_moves r Typical c.requires.1 4 19 ok (next r) (ended r c.requires.2) n told _ Questions refl told.0
-    (room.0, omega (arith, room.2, c.if-n-gt-MAX-QUESTIONS.false))
-    (le-leb _ _ c.if-n-gt-MAX-QUESTIONS.false)
+    (room.0, omega (arith, room.2, c.if-n-gt-MAX_QUESTIONS.false))
+    (le-leb _ _ c.if-n-gt-MAX_QUESTIONS.false)
     (ap (λ l. after (entries r.file.now question_entry 4 (map question_of l) n (r.at + 1)) (behind_questions r.file.now (so_far r).tasks (so_far r).curves (so_far r).staircases)) (nil_from_length (held r.questions) room.2))
-    (omega (arith, c.requires.2, c.if-n-gt-MAX-QUESTIONS.false))
+    (omega (arith, c.requires.2, c.if-n-gt-MAX_QUESTIONS.false))

@@ -27,26 +27,26 @@ ended : (r : Reader) → r.due ≡ 0 → go_in Curves r ≡ after (count r.file.
 ended r e =
     ap (λ o. after o (behind_curves r.file.now (so_far r).tasks)) (entry_none r.file.now curves_entry 2 (so_far r).curves r.at r.due e)
 
-pub returns-in-err-n : goal.returns-in-err-n
-returns-in-err-n c =
+pub returns-in_err-n : goal.returns-in_err-n
+returns-in_err-n c =
     let r = c.args.self.now in
-    open_breaks r Curves c.requires.1 3 16 (ok r) (next r) (ended r c.requires.2) _ _ c.in-err-n.field-0.0 c.in-err-n.ensures c.from-residual.ensures.1
+    open_breaks r Curves c.requires.1 3 16 (ok r) (next r) (ended r c.requires.2) _ _ c.in_err-n.field-0.0 c.in_err-n.ensures c.from_residual.ensures.1
 
 pub returns-then-len-n : goal.returns-then-len-n
 returns-then-len-n c =
     let r = c.args.self.now in
     let curves = length-map (held r.curves) curves_of in
     let tasks = length-map (held r.tasks) times_of in
-    open_refuses r Curves c.requires.1 3 16 (ok r) (next r) (ended r c.requires.2) c.in-ok-n.n c.in-ok-n.ensures c.from.result
+    open_refuses r Curves c.requires.1 3 16 (ok r) (next r) (ended r c.requires.2) c.in_ok-n.n c.in_ok-n.ensures c.from.result
     (ne_eqb _ _ (λ same. c.if-len-n.true (omega (arith, same, c.len.ensures.value, c.len-2.ensures.value))))
     (fault_is c.from.result cause.StaircaseCount _ c.from.ensures.0 (c.from.ensures.1 ∙ c.new.ensures))
 
 pub returns : goal.returns
 returns c =
     let r = c.args.self.now in
-    let n = c.in-ok-n.n in
+    let n = c.in_ok-n.n in
     let room = room_in r Curves c.requires.0 c.requires.1 in
-    let told = c.in-ok-n.ensures in
+    let told = c.in_ok-n.ensures in
     let curves = length-map (held r.curves) curves_of in
     let tasks = length-map (held r.tasks) times_of in
     open_moves r Curves c.requires.1 3 16 (ok r) (next r) (ended r c.requires.2) n told _ Typical refl told.0

@@ -24,11 +24,11 @@ ended r e = ap (λ b. after (count r.file.now 1 12 ok b) (next r)) (sym e)
 pub returns : goal.returns
 returns c =
     let r = c.args.self.now in
-    let n = c.in-ok-n.n in
+    let n = c.in_ok-n.n in
     let room = room_in r Start c.requires.0 c.requires.1 in
-    let told = c.in-ok-n.ensures in
+    let told = c.in_ok-n.ensures in
     open_moves r Start c.requires.1 1 12 ok (next r) (ended r room.0) n told _ Tasks refl told.0
-    (omega (arith, c.if-n-lt1.false), omega (arith, room.1, c.if-n-gt-MAX-TASKS.false), room.2, room.3, room.4)
-    (and_from _ _ (le-leb _ _ c.if-n-lt1.false) (le-leb _ _ c.if-n-gt-MAX-TASKS.false))
+    (omega (arith, c.if-n-lt1.false), omega (arith, room.1, c.if-n-gt-MAX_TASKS.false), room.2, room.3, room.4)
+    (and_from _ _ (le-leb _ _ c.if-n-lt1.false) (le-leb _ _ c.if-n-gt-MAX_TASKS.false))
     (ap (λ l. after (entries r.file.now task_entry 1 (map times_of l) n (r.at + 1)) (behind_tasks r.file.now)) (nil_from_length (held r.tasks) room.1))
-    (omega (arith, c.if-n-gt-MAX-TASKS.false))
+    (omega (arith, c.if-n-gt-MAX_TASKS.false))

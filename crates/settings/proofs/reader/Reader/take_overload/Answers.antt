@@ -14,17 +14,17 @@ use Rattle.settings.proofs.Fits.{staircase_fits, takes_ok, takes_err, length_two
 use Rattle.settings.proofs.Steps.{rest, inside, room_in, take_fails, take_moves}
 use Rattle.settings.proofs.reader.Reader.take_overload.Goals as goal
 
-pub overflow-add-self : goal.overflow-add-self
-overflow-add-self c =
+pub overflow_add-self : goal.overflow_add-self
+overflow_add-self c =
     let r = c.args.self.now in
-    let found = takes_ok (staircase_entry (rest r.file.now r.at)) c.in-Ok.size _ c.staircase-in.new.staircase c.in-Ok.ensures in
+    let found = takes_ok (staircase_entry (rest r.file.now r.at)) c.in-Ok.size _ c.staircase_in.new.staircase c.in-Ok.ensures in
     omega (arith, inside r.file.now r.at c.in-Ok.size c.requires.0.inside (staircase_fits _ _ _ found))
 
 pub returns-in-Ok : goal.returns-in-Ok
 returns-in-Ok c =
     let r = c.args.self.now in
     let room = room_in r Overload c.requires.0 c.requires.1 in
-    let taken = c.staircase-in.new.staircase in
+    let taken = c.staircase_in.new.staircase in
     let found = takes_ok (staircase_entry (rest r.file.now r.at)) c.in-Ok.size _ taken c.in-Ok.ensures in
     let one : 2 * r.due - 1 ≡ suc (2 * (r.due - 1)) = omega (arith, room.3) in
     let pushed = held_push r.staircases c.push.new.self (record { typical = r.typical; overload = taken }) c.push.result c.push.ensures.value c.push.ensures.after (omega (arith, room.1, room.3)) in

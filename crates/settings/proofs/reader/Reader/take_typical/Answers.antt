@@ -13,7 +13,7 @@ pub returns-in-Ok : goal.returns-in-Ok
 returns-in-Ok c =
     let r = c.args.self.now in
     let room = room_in r Typical c.requires.0 c.requires.1 in
-    let taken = c.staircase-in.new.staircase in
+    let taken = c.staircase_in.new.staircase in
     let found = takes_ok (staircase_entry (rest r.file.now r.at)) c.in-Ok.size _ taken c.in-Ok.ensures in
     let one : 2 * r.due ≡ suc (2 * r.due - 1) = omega (arith, c.requires.2) in
     take_moves r Typical c.requires.1 staircase_entry 3 (so_far r).staircases (2 * r.due) (behind_staircases r.file.now (so_far r).tasks (so_far r).curves) refl (2 * r.due - 1) one

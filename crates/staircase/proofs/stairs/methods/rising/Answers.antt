@@ -6,19 +6,19 @@ use Rattle.staircase.proofs.Bytes.{get_d_points}
 use Rattle.staircase.proofs.Rising.{from_more, from_stops, from_all}
 use Rattle.staircase.proofs.stairs.methods.rising.Goals as goal
 
-pub returns-then-not-may-follow : goal.returns-then-not-may-follow
-returns-then-not-may-follow c =
+pub returns-then-not-may_follow : goal.returns-then-not-may_follow
+returns-then-not-may_follow c =
     let n = c.args.n in
     let bytes = c.args.bytes.now in
     sym (from_stops c.args.repeat (points n bytes) c.loop-i.i _ _ (omega (arith, length-points n bytes))
     (get_d_points n bytes c.loop-i.i c.loop-i-test.true ∙ sym c.point-p.ensures)
-    (λ fits. false≢true (c.if-not-may-follow.ensures.1 fits))) ∙ c.loop-i.invariant
+    (λ fits. false≢true (c.if-not-may_follow.ensures.1 fits))) ∙ c.loop-i.invariant
 
 pub loop-i-preserved : goal.loop-i-preserved
 loop-i-preserved c =
     let n = c.args.n in
     let bytes = c.args.bytes.now in
-    let told = c.if-not-may-follow.ensures.0 refl in
+    let told = c.if-not-may_follow.ensures.0 refl in
     from_more c.args.repeat (points n bytes) c.loop-i.i _ _ (omega (arith, length-points n bytes))
     (get_d_points n bytes c.loop-i.i c.loop-i-test.true ∙ sym c.point-p.ensures) told.0 told.1 ∙ c.loop-i.invariant
 

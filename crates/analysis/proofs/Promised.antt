@@ -4,7 +4,7 @@ use Rattle.arrival.specs.Meaning.{Meaning, Lawful}
 use Rattle.dispatch.specs.Executions.{ExecutionPromise, clock_of, jobs_of}
 use Rattle.dispatch.proofs.Agrees.{clock_low, log_agrees}
 use Rattle.dispatch.proofs.Conforms.{conforming}
-use Rattle.loads.specs.Works.{table_of}
+use Rattle.loads.specs.Tables.{table_of}
 use Rattle.tables.specs.declared.table.ClosedTable.{ClosedTable}
 use Rattle.tables.specs.Tables.{closed_tasks}
 use Rattle.theory.specs.Questions.{Answer}

@@ -2,7 +2,7 @@
 use Rattle.std.proofs.Common.{◌≡◌, ℕ, suc, ◌<◌, ◌≤◌, Bool, true, List, length, Some, None, Option, sym, ap, ◌∙◌, MatchOption}
 use Rattle.std.proofs.lemmas.List.{length-map}
 use Rattle.arrival.specs.Meaning.{Meaning}
-use Rattle.loads.specs.Works.{table_of}
+use Rattle.loads.specs.Tables.{table_of}
 use Rattle.tables.specs.declared.task.Task.{Task}
 use Rattle.tables.specs.Tasks.{times_of}
 use Rattle.theory.specs.Least.{Serves}

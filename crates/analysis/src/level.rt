@@ -1,6 +1,6 @@
 // The level of a task in a table under a model: its busy windows, and which of their positions are late.
 ghost use Rattle.std.specs.Prelude.{◌≡◌, ℕ, ◌+◌, ◌-◌, ◌*◌, ◌<◌, ◌≤◌, ◌&&◌, length, Decides, MatchOption, nat_le, nat_lt};
-ghost use Rattle.loads.specs.Works.{table_of};
+ghost use Rattle.loads.specs.Tables.{table_of};
 ghost use Rattle.theory.specs.Least.{Serves};
 ghost use Rattle.theory.specs.Levels.{BusyLength, arrivals, every, level_load};
 ghost use Rattle.theory.specs.Positions.{LatePosition, Unschedulable};
@@ -29,7 +29,7 @@ impl<'a, M: ArrivalModel> Level<'a, M> {
     // The length of the longest busy window with overload in the set only, where it is within the limit.
     fn window(&self, set: &Combination, limit: u32) -> Option<u32>
         ensures { let l = self.now in
-            let m = meaning l.model.now in
+            let m = M.meaning l.model.now in
             let t = table_of l.tasks.now in
             MatchOption result
             ((w : ℕ) → w ≤ limit → Serves (level_load m t.wcet (member set.now.mask) l.task) w → ⊥)
@@ -79,7 +79,7 @@ impl<'a, M: ArrivalModel> Level<'a, M> {
     // L: the length of the longest busy window where every task may be overloaded.
     pub(crate) fn longest(&self) -> Option<u32>
         ensures { let l = self.now in
-            let m = meaning l.model.now in
+            let m = M.meaning l.model.now in
             let t = table_of l.tasks.now in
             MatchOption result
             ((L : ℕ) × (L ≤ 1000000) × WindowLength m t l.task L → ⊥)

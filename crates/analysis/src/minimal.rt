@@ -1,7 +1,7 @@
 // The minimal combinations: the minimal sets of sources whose overload can make a job late.
 ghost use Rattle.std.specs.Prelude.{◌≡◌, ◌≤◌, Decides};
 ghost use Rattle.base.specs.Bounded.{held};
-ghost use Rattle.loads.specs.Works.{table_of};
+ghost use Rattle.loads.specs.Tables.{table_of};
 ghost use Rattle.theory.specs.Questions.{Fails, WindowLength};
 ghost use Rattle.theory.specs.Search.{Covered, Exactly};
 ghost use Rattle.theory.specs.Sets.{Minimal};

@@ -3,7 +3,7 @@ ghost use Rattle.std.specs.Prelude.{◌≡◌, ℕ, suc, ◌+◌, ◌-◌, ◌*�
 ghost use Rattle.base.specs.Faults.{in_numbers};
 ghost use Rattle.base.specs.Tests.{Refused};
 ghost use Rattle.dispatch.specs.Executions.{ExecutionPromise};
-ghost use Rattle.loads.specs.Works.{table_of};
+ghost use Rattle.loads.specs.Tables.{table_of};
 ghost use Rattle.tables.specs.Tables.{closed_tasks};
 ghost use Rattle.theory.specs.Packings.{Greatest};
 ghost use Rattle.theory.specs.Promises.{ExchangePromise};
@@ -44,7 +44,7 @@ fn check_range(jobs: u16, span: u32) -> Result<(), Refusal>
 // L, where there is one and no job is late without overload.
 fn admit<'a, M: ArrivalModel>(level: &Level<'a, M>) -> Result<u32, Refusal>
     ensures { let l = level.now in
-        let m = meaning l.model.now in
+        let m = M.meaning l.model.now in
         let t = table_of l.tasks.now in
         MatchResult result
         (λ L. (L ≤ 1000000) × WindowLength m t l.task L × (Fails m t l.task 0 → ⊥))

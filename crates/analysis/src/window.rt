@@ -1,5 +1,5 @@
 // The call for the longest busy window of a task's level.
-ghost use Rattle.loads.specs.Works.{table_of};
+ghost use Rattle.loads.specs.Tables.{table_of};
 ghost use Rattle.tables.specs.Tables.{closed_tasks};
 ghost use Rattle.analysis.specs.Windows.{AnswersWindow, OfTable};
 

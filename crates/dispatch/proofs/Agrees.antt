@@ -4,7 +4,7 @@ use Rattle.std.proofs.lemmas.Bool.{cases_eq, cond-true, cond-false, eq-eqb, ne_e
 use Rattle.std.proofs.lemmas.List.{length_push, length-set, length-map, length-take-le, length-append, get_or-set_same, get_or-set_other, get_or-take, get_or-map, get_or_append_left, take-append-drop}
 use Rattle.arrival.specs.declared.class.Class.{Class}
 use Rattle.arrival.specs.Meaning.{Meaning}
-use Rattle.loads.specs.Works.{table_of}
+use Rattle.loads.specs.Tables.{table_of}
 use Rattle.tables.specs.declared.table.ClosedTable.{ClosedTable}
 use Rattle.tables.specs.Tables.{closed_tasks}
 use Rattle.theory.specs.Service.{Served}

@@ -6,7 +6,7 @@ use Rattle.std.proofs.lemmas.List.{length_push, length-take-le, length-map, get_
 use Rattle.arrival.specs.declared.class.Class.{Class}
 use Rattle.arrival.specs.declared.class.Class.TheVariants.{Typical, Overload}
 use Rattle.arrival.specs.Meaning.{Meaning, Monotone, Lawful}
-use Rattle.loads.specs.Works.{table_of}
+use Rattle.loads.specs.Tables.{table_of}
 use Rattle.tables.specs.declared.table.ClosedTable.{ClosedTable}
 use Rattle.tables.specs.Tables.{closed_tasks}
 use Rattle.theory.specs.Conforming.{Conforming, in_window, same_class}

@@ -4,7 +4,7 @@ use Rattle.std.specs.Option.{option_map}
 use Rattle.arrival.specs.declared.class.Class.{Class}
 use Rattle.arrival.specs.Meaning.{Meaning}
 use Rattle.base.specs.Tests.{Passed, Refused}
-use Rattle.loads.specs.Works.{table_of}
+use Rattle.loads.specs.Tables.{table_of}
 use Rattle.tables.specs.declared.table.ClosedTable.{ClosedTable}
 use Rattle.tables.specs.Tables.{closed_tasks}
 use Rattle.theory.specs.Service.{Served}

@@ -2,7 +2,7 @@
 use Rattle.std.specs.Prelude.{◌≡◌, ℕ, suc, ◌-◌, ◌<◌, ◌≤◌, Bool, true, false, List, [], ◌∷◌, ◌++◌, length, is_ok, Option, Result}
 use Rattle.arrival.specs.declared.class.Class.{Class}
 use Rattle.arrival.specs.Meaning.{Meaning, Lawful}
-use Rattle.loads.specs.Works.{table_of}
+use Rattle.loads.specs.Tables.{table_of}
 use Rattle.tables.specs.declared.table.ClosedTable.{ClosedTable}
 use Rattle.tables.specs.Tables.{closed_tasks}
 use Rattle.theory.specs.Conforming.{Conforming}

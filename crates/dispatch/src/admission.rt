@@ -1,6 +1,6 @@
 // Whether a table and a model allow one more job.
 ghost use Rattle.std.specs.Prelude.{◌≡◌, ◌+◌, ◌-◌, ◌<◌, ◌≤◌, length, Decides, count_by, nat_le};
-ghost use Rattle.loads.specs.Works.{table_of};
+ghost use Rattle.loads.specs.Tables.{table_of};
 ghost use Rattle.tables.specs.Tables.{closed_tasks};
 ghost use Rattle.theory.specs.Conforming.{same_class};
 ghost use Rattle.dispatch.specs.Records.{Allowed, is_kind, is_task, WindowsAllow};

@@ -4,7 +4,7 @@ use Rattle.arrival.specs.Meaning.{Meaning}
 use Rattle.file_format.specs.File.{fault}
 use Rattle.file_format.specs.Models.{model_of}
 use Rattle.file_format.specs.Settings.{Settings, Fault, Question}
-use Rattle.loads.specs.Works.{times_table}
+use Rattle.loads.specs.Tables.{times_table}
 use Rattle.theory.specs.Questions.{Answer}
 use Rattle.theory.specs.Tables.{Table}
 use Rattle.report.specs.declared.RefusalLine.{RefusalLine}

@@ -6,7 +6,7 @@ ghost use Rattle.analysis.specs.Refusals.{refusal_number};
 ghost use Rattle.base.specs.Faults.{in_numbers};
 ghost use Rattle.entries.specs.Values.{fault_of, question_of};
 ghost use Rattle.file_format.specs.File.{settings};
-ghost use Rattle.loads.specs.Works.{table_of};
+ghost use Rattle.loads.specs.Tables.{table_of};
 ghost use Rattle.settings.specs.Values.{settings_of};
 ghost use Rattle.tables.specs.Tables.{closed_tasks, open_tasks};
 ghost use Rattle.tables.specs.Tasks.{times_of};

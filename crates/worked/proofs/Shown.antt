@@ -8,7 +8,7 @@ use Rattle.arrival.specs.Tasks.{curves_meaning}
 use Rattle.arrival.specs.TasksLaws.{curves_lawful}
 use Rattle.file_format.specs.Models.{curve_count, by_class, model_of}
 use Rattle.file_format.specs.Settings.{Settings, Curves}
-use Rattle.loads.specs.Works.{times_table}
+use Rattle.loads.specs.Tables.{times_table}
 use Rattle.pjd.specs.Curves.{ceil, pjd_count}
 use Rattle.pjd.specs.Laws.{pjd_laws}
 use Rattle.staircase.specs.Stairs.{stairs_count}

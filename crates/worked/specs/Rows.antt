@@ -2,7 +2,7 @@
 use Rattle.std.specs.Prelude.{◌≡◌, ℕ, List, [], ◌∷◌, map, Ok, Err, Result}
 use Rattle.file_format.specs.Models.{model_of}
 use Rattle.file_format.specs.Settings.{Settings, Curves}
-use Rattle.loads.specs.Works.{times_table}
+use Rattle.loads.specs.Tables.{times_table}
 use Rattle.pjd.specs.Curves.{Pjd, pjd_count}
 use Rattle.staircase.specs.Stairs.{stairs_count}
 use Rattle.tables.specs.Tasks.{Times}

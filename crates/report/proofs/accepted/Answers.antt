@@ -4,7 +4,7 @@ use Rattle.arrival.specs.Chain.{chain}
 use Rattle.arrival.specs.Tasks.{curves_meaning}
 use Rattle.entries.specs.Values.{question_of}
 use Rattle.file_format.specs.Models.{model_of}
-use Rattle.loads.specs.Works.{table_of}
+use Rattle.loads.specs.Tables.{table_of}
 use Rattle.settings.specs.Values.{settings_of}
 use Rattle.tables.specs.Tables.{closed_tasks}
 use Rattle.tables.specs.Tasks.{times_of}

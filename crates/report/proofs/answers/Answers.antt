@@ -3,7 +3,7 @@ use Rattle.std.proofs.lemmas.List.{map_more, take_all}
 use Rattle.std.proofs.lemmas.Result.{IfOk-from_err}
 use Rattle.entries.specs.declared.question.Question.{Question}
 use Rattle.entries.specs.Values.{question_of}
-use Rattle.loads.specs.Works.{table_of}
+use Rattle.loads.specs.Tables.{table_of}
 use Rattle.tables.specs.Tables.{closed_tasks}
 use Rattle.theory.specs.Questions.{Answer}
 use Rattle.report.specs.Lines.{AnswerLines}

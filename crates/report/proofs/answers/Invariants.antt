@@ -1,6 +1,6 @@
 use Rattle.std.proofs.Common.{◌≡◌, map, length, take, string_bytes}
 use Rattle.entries.specs.Values.{question_of}
-use Rattle.loads.specs.Works.{table_of}
+use Rattle.loads.specs.Tables.{table_of}
 use Rattle.tables.specs.Tables.{closed_tasks}
 use Rattle.report.specs.Lines.{AnswerLines}
 use Rattle.report.proofs.answers.Given as goal

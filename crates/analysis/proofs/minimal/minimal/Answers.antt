@@ -4,7 +4,7 @@ use Rattle.std.proofs.lemmas.Bool.{both_ways}
 use Rattle.base.specs.Bounded.{held}
 use Rattle.base.proofs.Held.{held_push, length-held}
 use Rattle.loads.specs.declared.combination.Combination.{Combination}
-use Rattle.loads.specs.Works.{table_of}
+use Rattle.loads.specs.Tables.{table_of}
 use Rattle.theory.specs.Questions.{Fails}
 use Rattle.theory.specs.Search.{Covered, Subsets, at}
 use Rattle.theory.proofs.Search.{Found, found_covered, found_passing, found_new, found_all}

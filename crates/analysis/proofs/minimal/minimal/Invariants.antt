@@ -1,5 +1,5 @@
 use Rattle.base.specs.Bounded.{held}
-use Rattle.loads.specs.Works.{table_of}
+use Rattle.loads.specs.Tables.{table_of}
 use Rattle.theory.specs.Questions.{Fails}
 use Rattle.theory.proofs.Search.{Found}
 use Rattle.analysis.specs.Sources.{masks, source_of}

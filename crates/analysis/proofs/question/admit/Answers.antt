@@ -1,5 +1,5 @@
 use Rattle.std.proofs.Common.{refl, subst, inl, inr}
-use Rattle.loads.specs.Works.{table_of}
+use Rattle.loads.specs.Tables.{table_of}
 use Rattle.theory.specs.Questions.{Fails}
 use Rattle.analysis.proofs.question.admit.Goals as goal
 

@@ -5,7 +5,7 @@ use Rattle.base.specs.declared.bounded.BoundedList.{BoundedList}
 use Rattle.base.specs.Bounded.{held}
 use Rattle.base.specs.Faults.{in_numbers}
 use Rattle.base.proofs.Held.{length-held}
-use Rattle.loads.specs.Works.{table_of}
+use Rattle.loads.specs.Tables.{table_of}
 use Rattle.tables.specs.declared.task.Task.{Task}
 use Rattle.tables.specs.Tables.{closed_tasks}
 use Rattle.theory.specs.Sums.{count}

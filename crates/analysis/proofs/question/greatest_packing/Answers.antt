@@ -1,5 +1,5 @@
 use Rattle.std.proofs.Common.{sym, subst}
-use Rattle.loads.specs.Works.{table_of}
+use Rattle.loads.specs.Tables.{table_of}
 use Rattle.theory.specs.Questions.{Fails}
 use Rattle.theory.specs.Search.{Exactly}
 use Rattle.theory.specs.Sets.{Minimal}

@@ -1,5 +1,5 @@
 use Rattle.std.proofs.Common.{Decides, sym, subst, arith}
-use Rattle.loads.specs.Works.{table_of}
+use Rattle.loads.specs.Tables.{table_of}
 use Rattle.theory.specs.Positions.{LatePosition}
 use Rattle.theory.specs.Sets.{member}
 use Rattle.theory.proofs.Lateness.{serves-position, late_decides}

@@ -1,6 +1,6 @@
 use Rattle.std.proofs.Common.{◌≡◌, ℕ, suc, ◌+◌, ◌<◌, cond, sym, ap, ◌∙◌, subst, add-zero, arith}
 use Rattle.std.proofs.lemmas.Bool.Decides.{Decides-like}
-use Rattle.loads.specs.Works.{table_of}
+use Rattle.loads.specs.Tables.{table_of}
 use Rattle.loads.proofs.Masks.{every-member}
 use Rattle.theory.specs.Levels.{arrivals, every}
 use Rattle.theory.specs.Positions.{LatePosition}

@@ -1,5 +1,5 @@
 use Rattle.std.proofs.Common.{◌≤◌}
-use Rattle.loads.specs.Works.{table_of}
+use Rattle.loads.specs.Tables.{table_of}
 use Rattle.theory.specs.Levels.{every}
 use Rattle.theory.specs.Positions.{LatePosition}
 use Rattle.theory.specs.Questions.{HowMany}

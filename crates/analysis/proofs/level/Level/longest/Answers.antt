@@ -1,5 +1,5 @@
 use Rattle.std.proofs.Common.{arith}
-use Rattle.loads.specs.Works.{table_of}
+use Rattle.loads.specs.Tables.{table_of}
 use Rattle.loads.proofs.Masks.{every-member}
 use Rattle.theory.specs.Sets.{member}
 use Rattle.analysis.proofs.Windows.{longest_window}

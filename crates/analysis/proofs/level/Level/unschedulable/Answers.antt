@@ -1,7 +1,7 @@
 use Rattle.std.proofs.Common.{◌≡◌, ◌+◌, ◌-◌, refl, subst, arith, below_more}
 use Rattle.std.proofs.lemmas.Bool.{false≢true}
 use Rattle.std.proofs.lemmas.Bool.Decides.{not_from_Decides}
-use Rattle.loads.specs.Works.{table_of}
+use Rattle.loads.specs.Tables.{table_of}
 use Rattle.theory.specs.Levels.{every}
 use Rattle.theory.specs.Positions.{LatePosition}
 use Rattle.theory.specs.Sets.{member}

@@ -33,7 +33,7 @@ pub fn busy_window<'a, M: ArrivalModel>(
     model: &'a M,
     task: u8,
 ) -> Result<(u32, u32), Refusal>
-    ensures { AnswersWindow (M.meaning model.now) (table_of (closed_tasks table.now)) task result }
+    ensures { AnswersWindow (M.meaning model.now) (closed_tasks table.now) task result }
 {
     check_task(table, model, task)?;
     let level = Level {

@@ -1,10 +1,10 @@
 -- Masks of 32 bits.
-use Rattle.std.proofs.Common.{◌≡◌, ℕ, ◌+◌, ◌^◌, ◌<◌, ◌≤◌, true, false, not, ◌&&◌, ltb, sym, refl, ap, ◌∙◌, inl, inr}
+use Rattle.std.proofs.Common.{◌≡◌, ℕ, ◌+◌, ◌^◌, ◌<◌, true, false, not, ◌&&◌, ltb, sym, refl, ap, ◌∙◌, inl, inr}
 use lib.Bits.{bit_or}
-use Rattle.std.proofs.lemmas.Bool.{and_from, and_right, cases_Bool, cond-false, cond-true, le-ltb, lt-ltb, cases_lt, not_from_false, not_from_true}
+use Rattle.std.proofs.lemmas.Bool.{and_from, and_right, cases_Bool, cond-false, cond-true, lt-ltb, not_from_false, not_from_true}
 use Rattle.theory.specs.Sets.{member as in_mask}
 use Rattle.theory.proofs.Decisions.{all_below, decides_all}
-use Rattle.theory.proofs.Masks.{behind-none, or_adds, or_keeps}
+use Rattle.theory.proofs.Masks.{or_adds, or_keeps}
 use Rattle.loads.specs.Added.{added}
 use Rattle.loads.specs.Sets.{member}
 use Rattle.loads.specs.declared.combination.Combination.{Combination}
@@ -28,9 +28,6 @@ or_added mask j less =
       | inr missing ↦ or_adds j mask missing ∙ sym (added_new mask j less missing)
     ]
 
--- a mask of 32 bits has no member behind them
-pub member_in_mask : (c : Combination) → c.mask < 2 ^ 32 → (j : ℕ) → member c j ≡ in_mask c.mask j
-member_in_mask c fits j = elim (cases_lt j 32) [
-  | inl low ↦ ap (λ b. b && in_mask c.mask j) (lt-ltb j 32 low)
-  | inr high ↦ ap (λ b. b && in_mask c.mask j) (le-ltb j 32 high) ∙ sym (behind-none c.mask 32 j fits high)
-]
+-- below 32 the test of a set is the test of its mask
+pub member_low : (c : Combination) (j : ℕ) → j < 32 → member c j ≡ in_mask c.mask j
+member_low c j low = ap (λ b. b && in_mask c.mask j) (lt-ltb j 32 low)

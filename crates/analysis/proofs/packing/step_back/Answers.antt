@@ -35,13 +35,13 @@ loop-source-preserved c =
       ap (λ x. x * (b s + 1)) c.loop-source.invariant.0 ∙ sym (ap (states b) one),
       ap (λ x. x / (b s + 1)) c.loop-source.invariant.1 ∙ rest_more ss place s ∙ sym (ap (λ x. place / states b x) one),
       elim c.if-contains.branch [
-        | then-contains+else-rest-radix-eq0 w ↦ w.back-is ∙ omega (arith, offset_in ss set s (sym c.contains.ensures ∙ w.if-contains.true), c.loop-source.invariant.0, c.loop-source.invariant.2, ap (offset b (task_of ss) set) one)
-        | else-contains w ↦ w.back-is ∙ c.loop-source.invariant.2 ∙ sym (offset_out ss set s (sym c.contains.ensures ∙ w.if-contains.false)) ∙ sym (ap (offset b (task_of ss) set) one)
+        | then-contains+else-rest-radix-eq0 w ↦ w.back-is ∙ omega (arith, offset_in ss set s (sym c.contains.ensures.bit ∙ w.if-contains.true), c.loop-source.invariant.0, c.loop-source.invariant.2, ap (offset b (task_of ss) set) one)
+        | else-contains w ↦ w.back-is ∙ c.loop-source.invariant.2 ∙ sym (offset_out ss set s (sym c.contains.ensures.bit ∙ w.if-contains.false)) ∙ sym (ap (offset b (task_of ss) set) one)
       ],
       subst (λ x. Suits (task_of ss) x (state_at ss place) set) (sym one)
           (suits_more ss place set s c.loop-source.invariant.3
           (λ e. elim c.if-contains.branch [
             | then-contains+else-rest-radix-eq0 w ↦ let same = ap (λ x. x % (b s + 1)) c.loop-source.invariant.1 in omega (arith, w.if-rest-radix-eq0.false)
-            | else-contains w ↦ absurd (both_ways _ w.if-contains.false (c.contains.ensures ∙ e))
+            | else-contains w ↦ absurd (both_ways _ w.if-contains.false (c.contains.ensures.bit ∙ e))
           ])),
     )

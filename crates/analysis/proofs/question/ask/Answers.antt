@@ -39,7 +39,7 @@ few-held f ss same = omega (arith, ap length same, length-held f, f.within)
 pub invariant_of-level : goal.invariant_of-level
 invariant_of-level g c =
     let held = task_count _ (closed_tasks c.args.table.now) c.tasks.ensures.value in
-    (c.tasks.ensures.high_bound, omega (arith, c.in_ok-check_task.ensures.1))
+    record { few = c.tasks.ensures.high_bound; held = omega (arith, c.in_ok-check_task.ensures.1) }
 
 pub returns-in_err-longest : goal.returns-in_err-longest
 returns-in_err-longest g c =

@@ -6,4 +6,4 @@ use Rattle.analysis.proofs.window.busy_window.Goals as goal
 pub invariant_of-level : goal.invariant_of-level
 invariant_of-level g c =
     let held = task_count _ (closed_tasks c.args.table.now) c.tasks.ensures.value in
-    (c.tasks.ensures.high_bound, omega (arith, c.in_ok-check_task.ensures.1))
+    record { few = c.tasks.ensures.high_bound; held = omega (arith, c.in_ok-check_task.ensures.1) }

@@ -6,5 +6,5 @@ use Rattle.analysis.proofs.level.Level.deadline.Goals as goal
 pub returns : goal.returns
 returns g c =
     let l = c.args.self.now in
-    let read = c.index-self-self.is in
-    c.deadline.ensures.value ∙ sym (ap deadline_in (slice_get_read l.tasks.now _ l.task c.index-self-self.result refl l.held read))
+    let held = slice_get_read l.tasks.now _ l.task c.index-self-self.result refl l.held c.index-self-self.is in
+    c.deadline.ensures.value ∙ ap (λ t. t.deadline) (sym c.index-self-self.is) ∙ sym (ap deadline_in held)

@@ -1,36 +1,21 @@
--- The printed lines, one after another, and what is printed for a file.
-use Rattle.std.proofs.Common.{◌≡◌, ℕ, List, [], ◌∷◌, ◌++◌, Ok, Err, Result, sym, refl, ap, ◌∙◌, subst}
-use Rattle.std.proofs.lemmas.List.{append_assoc, append-nil}
-use Rattle.arrival.specs.Meaning.{Meaning}
+-- What is printed, from what reading the file answered.
+use Rattle.std.proofs.Common.{◌≡◌, ℕ, List, map, length, Ok, Err, Result, sym, ap, ◌∙◌}
+use Rattle.std.proofs.lemmas.List.{length-map}
 use Rattle.entries.specs.declared.fault.FileFault.{FileFault}
 use Rattle.entries.specs.Values.{fault_of}
-use Rattle.file_format.specs.Settings.{Settings, Fault, Question}
+use Rattle.file_format.specs.Settings.{Settings, Fault}
 use Rattle.settings.specs.Read.{ReadsFile}
-use Rattle.settings.specs.Values.{settings_of}
 use Rattle.settings.specs.declared.settings.Settings as models
 use Rattle.tables.specs.declared.table.OpenTable.{OpenTable}
 use Rattle.tables.specs.Tables.{open_tasks}
-use Rattle.theory.specs.Questions.{Answer}
-use Rattle.theory.specs.Tables.{Table}
-use Rattle.report.specs.Lines.{AnswerLines, Printed, answer_line, refused_line}
+use Rattle.tables.specs.Tasks.{times_of}
+use Rattle.report.specs.Lines.{tasks_line, refused_line, printed}
 
-module _ (m : Meaning) (t : Table) where
-  pub lines_more : (qs : List Question) (q : Question) (bytes : List ℕ) (r : Result ℕ ℕ) → AnswerLines m t qs bytes → Answer m t q.task q.jobs q.span 16384 r
-      → AnswerLines m t (qs ++ q ∷ []) (bytes ++ answer_line q r)
-  lines_more [] q bytes r none answer =
-      (r, [], answer, refl, ap (λ bs. bs ++ answer_line q r) none ∙ sym (append-nil (answer_line q r)))
-  lines_more (p ∷ qs) q bytes r (first, rest, answered, more, is) answer = (
-    first,
-    rest ++ answer_line q r,
-    answered,
-    lines_more qs q rest r more answer,
-    ap (λ bs. bs ++ answer_line q r) is ∙ append_assoc (answer_line p first) rest (answer_line q r),
-  )
+pub tasks-printed : (o : Result Settings Fault) (old new : OpenTable) (m : models.Settings) (bs : List ℕ) → ReadsFile o (Ok tt) old new m → bs ≡ tasks_line (length (open_tasks new)) → bs ≡ printed o
+tasks-printed (Ok s) old new m bs filled p =
+    p ∙ ap tasks_line (sym (length-map (open_tasks new) times_of) ∙ ap (λ s. length s.tasks) filled)
+tasks-printed (Err f) old new m bs filled p = absurd filled
 
-pub accepted_printed : (o : Result Settings Fault) (old new : OpenTable) (held : models.Settings) (bytes : List ℕ) → ReadsFile o (Ok tt) old new held → Printed (Ok (settings_of (open_tasks new) held)) bytes → Printed o bytes
-accepted_printed (Ok s) old new held bytes filled p = subst (λ s. Printed (Ok s) bytes) filled p
-accepted_printed (Err f) old new held bytes filled p = absurd filled
-
-pub refusal_printed : (o : Result Settings Fault) (f : FileFault) (old new : OpenTable) (held : models.Settings) (bytes : List ℕ) → ReadsFile o (Err f) old new held → bytes ≡ refused_line (fault_of f) → Printed o bytes
-refusal_printed (Ok s) f old new held bytes told p = absurd told
-refusal_printed (Err e) f old new held bytes told p = p ∙ ap refused_line told.0
+pub refusal_printed : (o : Result Settings Fault) (f : FileFault) (old new : OpenTable) (m : models.Settings) (bs : List ℕ) → ReadsFile o (Err f) old new m → bs ≡ refused_line (fault_of f) → bs ≡ printed o
+refusal_printed (Ok s) f old new m bs told p = absurd told
+refusal_printed (Err e) f old new m bs told p = p ∙ ap refused_line told.0

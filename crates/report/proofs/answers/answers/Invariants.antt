@@ -2,8 +2,8 @@ use Rattle.std.proofs.Common.{◌≡◌, map, length, take, string_bytes}
 use Rattle.entries.specs.Values.{question_of}
 use Rattle.loads.specs.Tables.{table_of}
 use Rattle.tables.specs.Tables.{closed_tasks}
-use Rattle.report.specs.Lines.{AnswerLines}
-use Rattle.report.proofs.answers.Given as goal
+use Rattle.report.specs.Answers.{AnswerLines}
+use Rattle.report.proofs.answers.answers.Given as goal
 
 abbrev pub invariant-loop-question : goal.invariant-loop-question
 invariant-loop-question g l =

@@ -6,9 +6,9 @@ use Rattle.entries.specs.Values.{question_of}
 use Rattle.loads.specs.Tables.{table_of}
 use Rattle.tables.specs.Tables.{closed_tasks}
 use Rattle.theory.specs.Questions.{Answer}
-use Rattle.report.specs.Lines.{AnswerLines}
-use Rattle.report.proofs.Printed.{lines_more}
-use Rattle.report.proofs.answers.Goals as goal
+use Rattle.report.specs.Answers.{AnswerLines}
+use Rattle.report.proofs.Answered.{lines_more}
+use Rattle.report.proofs.answers.answers.Goals as goal
 
 pub returns-in_err-line : goal.returns-in_err-line
 returns-in_err-line g c = IfOk-from_err c.from_residual-in_err-line.result _ c.from_residual-in_err-line.ensures.0

@@ -1,4 +1,5 @@
 // What is printed for the shipped settings file, for that file with one byte changed, and for staircases with a fault.
+use report::answers::report_with_answers;
 use report::report;
 use std::process::Abort;
 use std::test::Fail;
@@ -33,13 +34,7 @@ fn prints(
 
 #[test]
 fn one_byte_changed(rt: HostRuntime) -> Result<(), Fail> {
-    prints(
-        &rt,
-        &SHIPPED,
-        0,
-        3,
-        "tasks 3\n2 10 90 misses 4\n2 0 0 refused 32\n",
-    )?;
+    prints(&rt, &SHIPPED, 0, 3, "tasks 3\n")?;
     prints(&rt, &SHIPPED, 0, 0, "refused 12 section 1 entry 0 byte 0\n")?;
     prints(
         &rt,
@@ -155,6 +150,15 @@ fn cut_short(rt: HostRuntime) -> Result<(), Fail> {
     assert_eq!(rt;
         report(rt.alloc(), &SHIPPED[0..1])?.as_str(),
         "refused 11 section 1 entry 1 byte 1\n"
+    );
+    Ok(())
+}
+
+#[test]
+fn with_answers(rt: HostRuntime) -> Result<(), Fail> {
+    assert_eq!(rt;
+        report_with_answers(rt.alloc(), &SHIPPED)?.as_str(),
+        "tasks 3\n2 10 90 misses 4\n2 0 0 refused 32\n"
     );
     Ok(())
 }

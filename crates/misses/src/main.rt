@@ -1,4 +1,4 @@
-// Reads a settings file from standard input and prints the answers to its questions, or its first fault.
+// Reads a settings file from standard input and prints what it holds, or its first fault.
 #![tactic(auto)]
 
 use report::report;

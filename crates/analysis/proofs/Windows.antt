@@ -1,10 +1,8 @@
 -- The number of a table's tasks, and the mask of every task for every task of a level.
-use Rattle.std.proofs.Common.{◌≡◌, ℕ, suc, ◌<◌, ◌≤◌, Bool, true, List, length, Some, None, Option, sym, ap, ◌∙◌, MatchOption}
-use Rattle.std.proofs.lemmas.List.{length-map}
+use Rattle.std.proofs.Common.{◌≡◌, ℕ, suc, ◌<◌, ◌≤◌, Bool, true, List, length, Some, None, Option, sym, ap, MatchOption}
 use Rattle.arrival.specs.Meaning.{Meaning}
 use Rattle.loads.specs.Tables.{table_of}
 use Rattle.tables.specs.declared.task.Task.{Task}
-use Rattle.tables.specs.Tasks.{times_of}
 use Rattle.theory.specs.Least.{Serves}
 use Rattle.theory.specs.Levels.{BusyLength, every, level_load}
 use Rattle.theory.specs.Questions.{WindowLength}

@@ -1,6 +1,6 @@
 -- The curves of a task, from those of its classes.
-use Rattle.std.proofs.Common.{◌≡◌, ℕ, ◌≤◌, Bool, true, false, ◌&&◌, List, length, Ok, Err, Result, sym, ap, ◌∙◌}
-use Rattle.std.proofs.lemmas.Bool.{cond-true, cond-false, le-leb, and_from, and_left, and_right}
+use Rattle.std.proofs.Common.{◌≡◌, ℕ, ◌≤◌, List, length, Ok, Err, Result, sym, ap, ◌∙◌}
+use Rattle.std.proofs.lemmas.Bool.{cond-true, cond-false, le-leb, and_from, and_right}
 use Rattle.base.specs.Faults.{given}
 use Rattle.base.proofs.Faults.{given_value, given_err}
 use Rattle.pjd.specs.Curves.{Pjd}

@@ -1,5 +1,5 @@
 -- Curves by period, jitter and distance.
-use Rattle.std.specs.Prelude.{ℕ, ◌+◌, ◌/◌, ◌%◌, min, Bool, ◌&&◌, Ok, Err, Result, nat_le}
+use Rattle.std.specs.Prelude.{ℕ, ◌+◌, ◌/◌, ◌%◌, min, Bool, ◌&&◌, Ok, Result, nat_le}
 use Rattle.base.specs.Faults.{given}
 use Rattle.pjd.specs.declared.curve.PjdCurve.{PjdCurve}
 use Rattle.pjd.specs.declared.curve.CurveFault.{CurveFault}

@@ -1,5 +1,5 @@
 -- What is printed, from what reading the file answered.
-use Rattle.std.proofs.Common.{◌≡◌, ℕ, List, map, length, Ok, Err, Result, sym, ap, ◌∙◌}
+use Rattle.std.proofs.Common.{◌≡◌, ℕ, List, length, Ok, Err, Result, sym, ap, ◌∙◌}
 use Rattle.std.proofs.lemmas.List.{length-map}
 use Rattle.entries.specs.declared.fault.FileFault.{FileFault}
 use Rattle.entries.specs.Values.{fault_of}

@@ -1,5 +1,5 @@
 -- What reading a file answers, from what the reader ended with.
-use Rattle.std.proofs.Common.{◌≡◌, ℕ, ◌<◌, true, false, List, is_ok, Ok, Err, Result, sym, refl, ap, ◌∙◌, subst}
+use Rattle.std.proofs.Common.{◌≡◌, ℕ, ◌<◌, true, List, is_ok, Ok, Err, Result, sym, refl, ap, ◌∙◌, subst}
 use Rattle.std.specs.List.{AllByRecursion as All}
 use Rattle.std.proofs.lemmas.Bool.{false≢true}
 use Rattle.base.proofs.Faults.{same_ok, no_ok}

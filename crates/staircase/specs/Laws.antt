@@ -1,9 +1,9 @@
 -- The laws of staircases.
-use Rattle.std.specs.Prelude.{◌≡◌, ℕ, zero, suc, ◌+◌, ◌-◌, ◌*◌, ◌/◌, ◌%◌, ◌<◌, ◌≤◌, Bool, true, false, cond, ◌&&◌, leb, List, [], ◌∷◌, length, drop, ◌==◌, nat_le, refl}
-use Rattle.std.proofs.Common.{sym, ap, subst, ◌∙◌, ⊎_elim, div-mul-le_self, zero-mul, arith}
+use Rattle.std.specs.Prelude.{◌≡◌, ℕ, zero, suc, ◌+◌, ◌-◌, ◌*◌, ◌/◌, ◌%◌, ◌<◌, ◌≤◌, true, cond, leb, List, [], ◌∷◌, length, drop, ◌==◌, nat_le, refl}
+use Rattle.std.proofs.Common.{ap, ⊎_elim, div-mul-le_self, zero-mul, arith}
 use Rattle.std.proofs.lemmas.List.Sums.{sum_by-cons, count_by-le-length}
 use Rattle.std.proofs.lemmas.Nat.{div-add-mod', le-div, mul-le}
-use Rattle.std.proofs.lemmas.Bool.{cases_lt, cond_both, cond-true, cond-false, leb-true, leb-false, ltb-true, lt-ltb, eqb-true, le-leb, and_parts, and_from}
+use Rattle.std.proofs.lemmas.Bool.{cases_lt, cond_both, leb-true, leb-false, ltb-true, lt-ltb, eqb-true, le-leb, and_parts, and_from}
 use Rattle.arrival.specs.Meaning.{CurveLaws}
 use Rattle.staircase.specs.declared.stairs.Staircase.{Staircase}
 use Rattle.staircase.specs.Stairs.{Stairs, points, rises, points_ok, up_to, stairs_count}

@@ -1,5 +1,5 @@
 -- Staircases: points that repeat, and what they count.
-use Rattle.std.specs.Prelude.{ℕ, zero, suc, ◌+◌, ◌*◌, ◌/◌, ◌%◌, Bool, true, ◌&&◌, leb, List, [], ◌∷◌, length, drop, Ok, Err, count_by, Result, ◌==◌, nat_le, nat_lt}
+use Rattle.std.specs.Prelude.{ℕ, zero, suc, ◌+◌, ◌*◌, ◌/◌, ◌%◌, Bool, true, ◌&&◌, leb, List, [], ◌∷◌, length, drop, Ok, count_by, Result, ◌==◌, nat_le, nat_lt}
 use Rattle.std.specs.Bool.{beq}
 use Rattle.base.specs.Faults.{given}
 use Rattle.base.specs.Numbers.{number}

@@ -1,5 +1,5 @@
 -- Tables by the list of their tasks.
-use Rattle.std.specs.Prelude.{ℕ, List, [], ◌∷◌, ◌++◌, length, Ok, Err, Result, nat_lt, slice_set}
+use Rattle.std.specs.Prelude.{ℕ, List, [], ◌∷◌, ◌++◌, length, Ok, Result, nat_lt, slice_set}
 use Rattle.base.specs.Bounded.{held}
 use Rattle.base.specs.Faults.{given}
 use Rattle.tables.specs.declared.task.Task.{Task}

@@ -1,5 +1,5 @@
 -- Tasks by their times.
-use Rattle.std.specs.Prelude.{ℕ, Bool, ◌&&◌, Ok, Err, Result, nat_le}
+use Rattle.std.specs.Prelude.{ℕ, Bool, ◌&&◌, Ok, Result, nat_le}
 use Rattle.base.specs.Faults.{given}
 use Rattle.tables.specs.declared.task.Task.{Task}
 use Rattle.tables.specs.declared.task.TaskFault.{TaskFault}

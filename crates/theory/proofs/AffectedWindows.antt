@@ -1,5 +1,5 @@
 -- The late jobs among jobs released near each other are at most the late positions times the greatest packing.
-use Rattle.std.proofs.Common.{◌≡◌, ℕ, suc, ◌+◌, ◌-◌, ◌*◌, ◌^◌, ◌<◌, ◌≤◌, Bool, true, false, cond, ◌&&◌, eqb, ltb, leb, sym, refl, ap, ◌∙◌, subst, inl, inr, mul-le-mul_left, arith}
+use Rattle.std.proofs.Common.{◌≡◌, ℕ, suc, ◌+◌, ◌-◌, ◌*◌, ◌^◌, ◌<◌, ◌≤◌, Bool, true, cond, ◌&&◌, eqb, ltb, leb, sym, refl, ap, ◌∙◌, subst, inl, inr, mul-le-mul_left, arith}
 use native.Mathlib.Nat.{le-min}
 use Rattle.std.proofs.lemmas.Bool.{and_from, and_parts, cases_Bool, cond_both, eq-eqb, eqb-true, false≢true, le-leb, lt-ltb, ltb-false, ltb-true}
 use Rattle.arrival.specs.declared.class.Class.TheVariants.{Overload}

@@ -1,8 +1,7 @@
-use Rattle.std.proofs.Common.{◌≡◌, ℕ, ◌+◌, ◌*◌, ◌<◌, Decides, sym, ap, subst, arith}
+use Rattle.std.proofs.Common.{ℕ, ◌+◌, ◌*◌, ◌<◌, Decides, sym, ap, subst, arith}
 use Rattle.loads.specs.Sets.{member as held}
 use Rattle.loads.specs.Tables.{table_of}
 use Rattle.loads.proofs.Masks.{member_low}
-use Rattle.theory.specs.Levels.{demand}
 use Rattle.theory.specs.Positions.{LatePosition}
 use Rattle.theory.specs.Sets.{member}
 use Rattle.theory.proofs.Lateness.{serves-position, late_decides}

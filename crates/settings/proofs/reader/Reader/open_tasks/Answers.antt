@@ -3,7 +3,7 @@ use Rattle.std.proofs.lemmas.List.{nil_from_length}
 use Rattle.std.proofs.lemmas.Bool.{le-leb, and_from}
 use Rattle.base.specs.Bounded.{held}
 use Rattle.file_format.specs.Entries.{task_entry}
-use Rattle.file_format.specs.File.{after, count, entries, settings}
+use Rattle.file_format.specs.File.{after, count, entries}
 use Rattle.file_format.specs.Settings.{Settings, Fault}
 use Rattle.tables.specs.Tasks.{times_of}
 use Rattle.settings.specs.declared.reader.Reader.{Reader}

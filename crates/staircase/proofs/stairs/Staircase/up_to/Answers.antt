@@ -1,4 +1,4 @@
-use Rattle.std.proofs.Common.{◌≡◌, ◌+◌, ◌-◌, ◌/◌, ◌<◌, get_or, sym, ◌∙◌, arith}
+use Rattle.std.proofs.Common.{◌+◌, ◌-◌, ◌/◌, ◌<◌, sym, ◌∙◌, arith}
 use Rattle.staircase.specs.Laws.{length-points, rises-from-ok}
 use Rattle.staircase.specs.Stairs.{points}
 use Rattle.staircase.proofs.Bytes.{get_d_points}

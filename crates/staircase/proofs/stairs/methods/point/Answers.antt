@@ -1,4 +1,4 @@
-use Rattle.std.proofs.Common.{◌*◌, sym, ◌∙◌, arith}
+use Rattle.std.proofs.Common.{◌*◌, arith}
 use Rattle.base.proofs.Numbers.{number_4}
 use Rattle.staircase.proofs.stairs.methods.point.Goals as goal
 

@@ -1,4 +1,4 @@
-use Rattle.std.proofs.Common.{◌≡◌, ◌+◌, ◌*◌, ◌/◌, sym, ap, ◌∙◌, arith}
+use Rattle.std.proofs.Common.{◌*◌, ◌/◌, sym, ap, ◌∙◌, arith}
 use Rattle.staircase.specs.Laws.{length-points, whole_small, count_small, count_none}
 use Rattle.staircase.specs.Values.{stairs_of}
 use Rattle.staircase.proofs.stairs.methods.StaircaseArrivalCurve.count.Goals as goal

@@ -1,6 +1,6 @@
 -- Reading and spelling, of one entry and of a section.
 use Rattle.std.proofs.Common.{◌≡◌, ℕ, zero, suc, ◌+◌, ◌<◌, ◌≤◌, Bool, true, false, leb, List, [], ◌∷◌, ◌++◌, length, drop, Ok, Err, Result, sym, refl, ap, ◌∙◌, subst, add-zero, arith, length-append}
-use Rattle.std.specs.List.{flat_map, AllByRecursion as All}
+use Rattle.std.specs.List.{flat_map, AllByRecursion}
 use Rattle.std.proofs.lemmas.List.{drop-drop, append_assoc, append-nil}
 use Rattle.std.proofs.ByRecursion.{All-drop}
 use Rattle.std.proofs.lemmas.Bool.{cond-true, le-leb, leb-true}
@@ -38,7 +38,7 @@ pub record BacksAt {X : Type 0} (file : List ℕ) (b : ℕ) (r : Read X) (sp : X
 
 module _ (file : List ℕ) (s : ℕ) where
   module _ {X : Type 0} {read : List ℕ → Front X} {sp : X → List ℕ} {Good : X → Type 0} (backs : Backs read sp Good) where
-    entries_back : (xs done : List X) (b : ℕ) (rest : List ℕ) → All Good xs → drop b file ≡ flat_map sp xs ++ rest → entries file read s done (length xs) b ≡ Ok (done ++ xs, b + length (flat_map sp xs))
+    entries_back : (xs done : List X) (b : ℕ) (rest : List ℕ) → AllByRecursion Good xs → drop b file ≡ flat_map sp xs ++ rest → entries file read s done (length xs) b ≡ Ok (done ++ xs, b + length (flat_map sp xs))
     unfolding entries
     entries_back [] done b rest good here = λ i. Ok (sym (append-nil done) i, sym (add-zero b) i)
     entries_back (x ∷ xs) done b rest good here =
@@ -49,7 +49,7 @@ module _ (file : List ℕ) (s : ℕ) where
         ∙ entries_back xs (done ++ x ∷ []) (b + length (sp x)) rest good.1 (behind b (length (sp x)) file (sp x) next refl front)
         ∙ (λ i. Ok (append_assoc done (x ∷ []) xs i, long i))
 
-    entries_forth : (n : ℕ) (done xs : List X) (b e : ℕ) → Bytes file → entries file read s done n b ≡ Ok (xs, e) → (ys : List X) × (done ++ ys ≡ xs) × (length ys ≡ n) × All Good ys × (drop b file ≡ flat_map sp ys ++ drop e file)
+    entries_forth : (n : ℕ) (done xs : List X) (b e : ℕ) → Bytes file → entries file read s done n b ≡ Ok (xs, e) → (ys : List X) × (done ++ ys ≡ xs) × (length ys ≡ n) × AllByRecursion Good ys × (drop b file ≡ flat_map sp ys ++ drop e file)
     unfolding entries
     entries_forth zero done xs b e small h =
         let same = same_ok (done, b) (xs, e) h in
@@ -69,13 +69,13 @@ module _ (file : List ℕ) (s : ℕ) where
         )
 
     -- n entries of a section
-    pub section_backs : (n b : ℕ) → BacksAt file b (entries file read s [] n b) (flat_map sp) (λ xs. (length xs ≡ n) × All Good xs)
+    pub section_backs : (n b : ℕ) → BacksAt file b (entries file read s [] n b) (flat_map sp) (λ xs. (length xs ≡ n) × AllByRecursion Good xs)
     section_backs n b = record {
       back = λ xs rest good here. ap (λ n. entries file read s [] n b) (sym good.0) ∙ entries_back xs [] b rest good.1 here;
       forth = λ xs e small h.
           let found = entries_forth n [] xs b e small h in
           let same : found.0 ≡ xs = found.1 in
-          ((ap length (sym same) ∙ found.2, subst (All Good) same found.3), found.4 ∙ ap (λ l. flat_map sp l ++ drop e file) same);
+          ((ap length (sym same) ∙ found.2, subst (AllByRecursion Good) same found.3), found.4 ∙ ap (λ l. flat_map sp l ++ drop e file) same);
     }
 
   -- the count of a section

@@ -1,6 +1,6 @@
 -- The four kinds of entries: each is read as it is spelled.
 use Rattle.std.proofs.Common.{◌≡◌, ℕ, zero, suc, ◌+◌, ◌*◌, ◌^◌, ◌<◌, ◌≤◌, true, ◌&&◌, ltb, leb, List, [], ◌∷◌, ◌++◌, length, drop, Ok, Err, Result, sym, refl, ap, ◌∙◌, subst, arith, length-append, length-drop}
-use Rattle.std.specs.List.{flat_map, AllByRecursion as All}
+use Rattle.std.specs.List.{flat_map, AllByRecursion}
 use Rattle.std.proofs.lemmas.Bool.{cond-true, le-leb, leb-true, ltb-true, and_parts, and_from}
 use Rattle.std.proofs.lemmas.List.{drop-drop}
 use Rattle.std.proofs.ByRecursion.{All-drop, All-weaker}
@@ -132,7 +132,7 @@ question_backs = record {
 }
 
 -- points that rise are not above the repeat
-rises_small : (repeat before : ℕ) (ps : List ℕ) → rises repeat before ps ≡ true → (before ≤ repeat) × All (λ p. p ≤ repeat) ps
+rises_small : (repeat before : ℕ) (ps : List ℕ) → rises repeat before ps ≡ true → (before ≤ repeat) × AllByRecursion (λ p. p ≤ repeat) ps
 rises_small repeat before [] h = (leb-true before repeat h, tt)
 rises_small repeat before (p ∷ ps) h =
     let each = and_parts (ltb before p) (rises repeat p ps) h in
@@ -143,7 +143,7 @@ length-points-spelled : (ps : List ℕ) → length (flat_map (spelled 4) ps) ≡
 length-points-spelled [] = refl
 length-points-spelled (p ∷ ps) = omega (arith, length-points-spelled ps)
 
-points_here : (ps bs rest : List ℕ) → All (λ p. p < 256 ^ 4) ps → bs ≡ flat_map (spelled 4) ps ++ rest → points (length ps) bs ≡ ps
+points_here : (ps bs rest : List ℕ) → AllByRecursion (λ p. p < 256 ^ 4) ps → bs ≡ flat_map (spelled 4) ps ++ rest → points (length ps) bs ≡ ps
 points_here [] bs rest small here = refl
 points_here (p ∷ ps) bs rest small here =
     let first : number 4 0 bs ≡ p = number_here 4 p 0 bs (flat_map (spelled 4) ps ++ rest) small.0 here in
@@ -159,7 +159,7 @@ here_points (suc n) bs long small =
     (here_points n (drop 4 bs) (omega (arith, length-drop 4 bs)) (All-drop (λ b. b < 256) 4 bs small)
     ∙ ap (λ l. flat_map (spelled 4) (points n (drop 4 bs)) ++ l) (drop-drop (4 * n) 4 bs ∙ ap (λ k. drop k bs) at))
 
-stairs_small : (s : Stairs) → GoodStairs s → (length s.points < 256 ^ 2) × (s.repeat < 256 ^ 4) × All (λ p. p < 256 ^ 4) s.points
+stairs_small : (s : Stairs) → GoodStairs s → (length s.points < 256 ^ 2) × (s.repeat < 256 ^ 4) × AllByRecursion (λ p. p < 256 ^ 4) s.points
 stairs_small s good =
     let n = length s.points in
     let each = and_parts (head_ok n s.repeat) (points_ok s.repeat s.points) good in

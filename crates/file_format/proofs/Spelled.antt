@@ -1,7 +1,7 @@
 -- Numbers and their bytes, at some place of a list.
 use Rattle.std.proofs.Common.{◌≡◌, ℕ, zero, suc, ◌+◌, ◌*◌, ◌/◌, ◌%◌, ◌^◌, ◌<◌, ◌≤◌, List, [], ◌∷◌, ◌++◌, length, get_or, take, drop, sym, refl, ap, ◌∙◌, pow-suc, arith, length-append, length-drop, take-suc}
 use native.Mathlib.Nat.{mod-add-div}
-use Rattle.std.specs.List.{AllByRecursion as All}
+use Rattle.std.specs.List.{AllByRecursion}
 use Rattle.std.proofs.lemmas.List.{drop_at, take_at, drop-drop, take-append-drop, length_push}
 use Rattle.std.proofs.ByRecursion.{All-get_or, All-drop}
 use Rattle.std.proofs.lemmas.Nat.{div_below}
@@ -9,7 +9,7 @@ use Rattle.base.specs.Numbers.{number, number_after, spelled}
 
 -- every byte is below 256
 abbrev pub Bytes : List ℕ → Type 0
-Bytes bs = All (λ b. b < 256) bs
+Bytes bs = AllByRecursion (λ b. b < 256) bs
 
 pub length-spelled : (w n : ℕ) → length (spelled w n) ≡ w
 length-spelled zero n = refl

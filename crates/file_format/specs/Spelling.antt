@@ -1,6 +1,6 @@
 -- The bytes of settings, and which settings have a file.
 use Rattle.std.specs.Prelude.{◌≡◌, ℕ, ◌+◌, ◌*◌, ◌/◌, ◌^◌, ◌<◌, ◌≤◌, true, ◌&&◌, List, ◌++◌, length, Ok}
-use Rattle.std.specs.List.{flat_map, AllByRecursion as All}
+use Rattle.std.specs.List.{flat_map, AllByRecursion}
 use Rattle.base.specs.Numbers.{spelled}
 use Rattle.pjd.specs.Curves.{Pjd}
 use Rattle.staircase.specs.Stairs.{Stairs, head_ok, points_ok}
@@ -36,12 +36,12 @@ spell s =
 pub record Lawful (s : Settings) : Type 0 where
   pub some_tasks : 1 ≤ length s.tasks
   pub few_tasks : length s.tasks ≤ 32
-  pub tasks : All (λ t. task_ok t ≡ true) s.tasks
-  pub curves : All (λ c. (curve_ok c.typical && curve_ok c.overload) ≡ true) s.curves
-  pub staircases : All (λ t. (head_ok (length t.points) t.repeat && points_ok t.repeat t.points) ≡ true) s.staircases
+  pub tasks : AllByRecursion (λ t. task_ok t ≡ true) s.tasks
+  pub curves : AllByRecursion (λ c. (curve_ok c.typical && curve_ok c.overload) ≡ true) s.curves
+  pub staircases : AllByRecursion (λ t. (head_ok (length t.points) t.repeat && points_ok t.repeat t.points) ≡ true) s.staircases
   pub two_each : 2 * length s.curves + length s.staircases ≡ 2 * length s.tasks
   pub few_questions : length s.questions ≤ 16
-  pub questions : All (λ q. (q.task < 2 ^ 8) × (q.jobs < 2 ^ 16) × (q.span < 2 ^ 32)) s.questions
+  pub questions : AllByRecursion (λ q. (q.task < 2 ^ 8) × (q.jobs < 2 ^ 16) × (q.span < 2 ^ 32)) s.questions
 
 -- the bytes of lawful settings are read back as those settings
 abbrev pub ReadsBack : Type 0
@@ -49,4 +49,4 @@ ReadsBack = (s : Settings) → Lawful s → settings (spell s) ≡ Ok s
 
 -- a file that is read is the bytes of lawful settings
 abbrev pub SpellsBack : Type 0
-SpellsBack = (file : List ℕ) (s : Settings) → All (λ b. b < 256) file → settings file ≡ Ok s → Lawful s × (spell s ≡ file)
+SpellsBack = (file : List ℕ) (s : Settings) → AllByRecursion (λ b. b < 256) file → settings file ≡ Ok s → Lawful s × (spell s ≡ file)

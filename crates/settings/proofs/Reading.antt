@@ -1,6 +1,6 @@
 -- What reading a file answers, from what the reader ended with.
 use Rattle.std.proofs.Common.{◌≡◌, ℕ, ◌<◌, true, List, is_ok, Ok, Err, Result, sym, refl, ap, ◌∙◌, subst}
-use Rattle.std.specs.List.{AllByRecursion as All}
+use Rattle.std.specs.List.{AllByRecursion}
 use Rattle.std.proofs.lemmas.Bool.{false≢true}
 use Rattle.base.proofs.Faults.{same_ok, no_ok}
 use Rattle.entries.specs.declared.fault.FileFault.{FileFault}
@@ -25,7 +25,7 @@ Clauses f r old new models =
 read_bytes : (f : List ℕ) (s : file.Settings) → AreBytesOf f s → settings f ≡ Ok s
 read_bytes f s bytes = ap settings (sym bytes.1) ∙ reads_back s bytes.0
 
-pub accepts : (f : List ℕ) (old new : OpenTable) (models : Settings) → All (λ b. b < 256) f → settings f ≡ Ok (settings_of (open_tasks new) models) → Clauses f (Ok tt) old new models
+pub accepts : (f : List ℕ) (old new : OpenTable) (models : Settings) → AllByRecursion (λ b. b < 256) f → settings f ≡ Ok (settings_of (open_tasks new) models) → Clauses f (Ok tt) old new models
 accepts f old new models small e = (
   subst (λ o. ReadsFile o (Ok tt) old new models) (sym e) refl,
   λ _. spells_back f _ small e,

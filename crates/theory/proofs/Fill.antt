@@ -1,6 +1,6 @@
 -- The cells, filled in the order of their places, hold the greatest lengths of packed lists.
 use Rattle.std.proofs.Common.{◌≡◌, ℕ, suc, ◌+◌, ◌-◌, ◌%◌, ◌<◌, ◌≤◌, cond, List, [], ◌∷◌, length, count_by, sym, ◌∙◌, subst, inl, inr, arith}
-use Rattle.std.specs.List.{ContainsAt as Has, AllByRecursion as All}
+use Rattle.std.specs.List.{ContainsAt as Has, AllByRecursion}
 use Rattle.std.proofs.lemmas.List.Sums.{sum_by-cons}
 use Rattle.std.proofs.lemmas.Bool.{cases_eq, cases_Bool, cond-true, cond-false}
 use Rattle.theory.specs.Packings.{states}
@@ -48,7 +48,7 @@ module _ (cs : List ℕ) (t : ℕ → ℕ) (n : ℕ) where
     takes_has : (c : ℕ) → Has cs c → Takes t n c
     takes_has c (y, l, e) = subst (Takes t n) (e 0) (takes y l)
 
-    members : (ps : List ℕ) → All (Has cs) ps → length ps ≤ total (λ s. count_by (λ x. member x (t s)) ps) n
+    members : (ps : List ℕ) → AllByRecursion (Has cs) ps → length ps ≤ total (λ s. count_by (λ x. member x (t s)) ps) n
     members [] h = omega arith
     members (c ∷ ps) (h, hs) =
         let (s, l, e) = takes_has c h in

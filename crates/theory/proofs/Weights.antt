@@ -1,6 +1,6 @@
 -- A packing gives each set a number, a packed list repeats it as often: the same packings.
 use Rattle.std.proofs.Common.{◌≡◌, ℕ, zero, suc, ◌+◌, ◌^◌, ◌<◌, ◌≤◌, Bool, true, cond, ◌&&◌, eqb, List, [], ◌∷◌, ◌++◌, length, replicate, count_by, sym, refl, ap, ◌∙◌, subst, inl, inr, arith}
-use Rattle.std.specs.List.{ContainsAt as Has, AllByRecursion as All}
+use Rattle.std.specs.List.{ContainsAt as Has, AllByRecursion}
 use Rattle.std.proofs.ByRecursion.{All-append, All-weaker}
 use Rattle.std.proofs.lemmas.List.{length-append, length-replicate, get_or_default}
 use Rattle.std.proofs.lemmas.List.Sums.{sum_by-cons, sum_by-append}
@@ -38,11 +38,11 @@ unfolding total
 spread-length w zero = refl
 spread-length w (suc n) = omega (arith, length-append (spread w n) (replicate (w n) n), length-replicate (w n) n, spread-length w n)
 
-all_replicate : (P : ℕ → Type 0) (k x : ℕ) → (1 ≤ k → P x) → All P (replicate k x)
+all_replicate : (P : ℕ → Type 0) (k x : ℕ) → (1 ≤ k → P x) → AllByRecursion P (replicate k x)
 all_replicate P zero x h = tt
 all_replicate P (suc k) x h = (h (omega arith), all_replicate P k x (λ l. h (omega arith)))
 
-pub spread-all : (P : ℕ → Type 0) (w : ℕ → ℕ) (n : ℕ) → ((m : ℕ) → 1 ≤ w m → P m) → All P (spread w n)
+pub spread-all : (P : ℕ → Type 0) (w : ℕ → ℕ) (n : ℕ) → ((m : ℕ) → 1 ≤ w m → P m) → AllByRecursion P (spread w n)
 spread-all P w zero h = tt
 spread-all P w (suc n) h = All-append P (spread w n) (replicate (w n) n) (spread-all P w n h) (all_replicate P (w n) n (h n))
 
@@ -50,7 +50,7 @@ spread-all P w (suc n) h = All-append P (spread w n) (replicate (w n) n) (spread
 abbrev pub times : List ℕ → ℕ → ℕ
 times ps m = count_by (λ x. eqb x m) ps
 
-pub times-count : (p : ℕ → Bool) (n : ℕ) (ps : List ℕ) → All (λ m. m < n) ps → sum_if p (times ps) n ≡ count_by p ps
+pub times-count : (p : ℕ → Bool) (n : ℕ) (ps : List ℕ) → AllByRecursion (λ m. m < n) ps → sum_if p (times ps) n ≡ count_by p ps
 times-count p n [] h = total_same (λ k. cond (p k) (times [] k) 0) (λ _. 0) n (λ k l. cond_nothing (p k)) ∙ total-zero n
 times-count p n (x ∷ ps) (h, hs) =
     omega (
@@ -64,7 +64,7 @@ times-count p n (x ∷ ps) (h, hs) =
       sum_by-cons (λ (y : ℕ). cond (p y) 1 0) x ps,
     )
 
-pub times-member : (P : ℕ → Type 0) (m : ℕ) (ps : List ℕ) → All P ps → 1 ≤ times ps m → P m
+pub times-member : (P : ℕ → Type 0) (m : ℕ) (ps : List ℕ) → AllByRecursion P ps → 1 ≤ times ps m → P m
 times-member P m [] h l = absurd (omega arith)
 times-member P m (x ∷ ps) (h, hs) l =
     elim (cases_eq x m) [

@@ -1,7 +1,7 @@
 -- Packings as lists of sets with repetitions, and the states of the budgets: one cell for each, in the order of their places.
 -- The sources are t 0, t 1, .. below n; b gives the budget of each, d what is left of it, by the place in this list.
 use Rattle.std.specs.Prelude.{◌≡◌, ℕ, ◌+◌, ◌*◌, ◌/◌, ◌%◌, ◌<◌, ◌≤◌, true, List, length, count_by}
-use Rattle.std.specs.List.{ContainsAt as Has, AllByRecursion as All}
+use Rattle.std.specs.List.{ContainsAt as Has, AllByRecursion}
 use Rattle.theory.specs.Packings.{states}
 use Rattle.theory.specs.Search.{at}
 use Rattle.theory.specs.Sets.{member}
@@ -9,7 +9,7 @@ use Rattle.theory.specs.Sums.{total, sum_if}
 
 -- the list ps takes its sets from cs and fits into what is left
 pub record Packed (cs : List ℕ) (t : ℕ → ℕ) (n : ℕ) (d : ℕ → ℕ) (ps : List ℕ) : Type 0 where
-  pub listed : All (Has cs) ps
+  pub listed : AllByRecursion (Has cs) ps
   pub fits : (s : ℕ) → s < n → count_by (λ c. member c (t s)) ps ≤ d s
 
 -- v is the greatest length of such a list

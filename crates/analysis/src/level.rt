@@ -14,7 +14,11 @@ use loads::least_length;
 use tables::task::Task;
 
 // A busy window is looked for up to this length.
-const MAX_WINDOW: u32 = 1_000_000;
+fn max_window() -> u32
+    ensures { result ≡ 1000000 }
+{
+    1_000_000
+}
 
 #[derive(Drop)]
 pub(crate) struct Level<'a, M> {
@@ -85,7 +89,7 @@ impl<'a, M: ArrivalModel> Level<'a, M> {
             ((L : ℕ) × (L ≤ 1000000) × WindowLength m t l.task L → ⊥)
             (λ L. (L ≤ 1000000) × WindowLength m t l.task L) }
     {
-        self.window(&Combination::every(), MAX_WINDOW)
+        self.window(&Combination::every(), max_window())
     }
 
     // K: how many positions a busy window of this length has where every task may be overloaded.

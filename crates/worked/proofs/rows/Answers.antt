@@ -1,6 +1,5 @@
-use Rattle.std.proofs.Common.{refl}
-use Rattle.worked.proofs.rows.Goals as goal
 use Rattle.worked.proofs.Shown.{worked}
+use Rattle.worked.proofs.rows.Goals as goal
 
-pub returns : goal.returns
-returns c = record { stand = worked; count = refl }
+pub returns-clause-stand : goal.returns-clause-stand
+returns-clause-stand c = worked

@@ -14,10 +14,12 @@ use loads::least_length;
 use tables::task::Task;
 
 // A busy window is looked for up to this length.
+const MAX_WINDOW: u32 = 1_000_000;
+
 fn max_window() -> u32
     ensures { result ≡ 1000000 }
 {
-    1_000_000
+    MAX_WINDOW
 }
 
 #[derive(Drop)]

@@ -1,10 +1,13 @@
 -- The answer to a question, from what its parts found.
-use Rattle.std.proofs.Common.{◌≡◌, ℕ, ◌*◌, ◌<◌, ◌≤◌, min, List, [], ◌∷◌, length, drop, Ok, Err, Result, sym, refl, subst, inl, inr, arith}
+use Rattle.std.proofs.Common.{◌≡◌, ℕ, ◌*◌, ◌<◌, ◌≤◌, min, List, [], ◌∷◌, length, drop, None, Ok, Err, Option, Result, ap, ◌∙◌, sym, refl, subst, inl, inr, arith}
+use Rattle.std.specs.Option.{ok_or}
+use Rattle.std.specs.Result.{IsErrAnd}
 use Rattle.arrival.specs.Meaning.{Meaning}
 use Rattle.base.specs.Tests.{Refused}
 use Rattle.theory.specs.Levels.{arrivals, every}
 use Rattle.theory.specs.Questions.{Admitted, Answer, CellsAfter, Fails, GreatestPacking, LateCount, WindowLength, cell_count, source_count}
 use Rattle.theory.specs.Tables.{Table}
+use Rattle.analysis.specs.declared.refusal.Refusal.{Refusal}
 use Rattle.theory.proofs.Counting.{how_many_unique}
 use Rattle.theory.proofs.Lateness.{least_unique}
 
@@ -51,3 +54,13 @@ module _ (m : Meaning) (t : Table) (i k S L N : ℕ)
 pub asked_window : (m : Meaning) (t : Table) (i k S : ℕ) → (m.tasks ≡ t.tasks) × (i < t.tasks) → (1 ≤ k) × (k ≤ 1000) × (S ≤ 1000000000)
     → (n : ℕ) → Refused (((L : ℕ) × (L ≤ 1000000) × WindowLength m t i L, 35) ∷ (Fails m t i 0 → ⊥, 36) ∷ []) n → (cells : List ℕ) → Asked m t i k S cells (Err n) cells
 asked_window m t i k S fits range n refused cells = (inl (inr (fits.0, inr (fits.1, inr ((range.0, range.1), inr (range.2, refused))))), refl)
+
+-- the refusal in a result, or else this one
+abbrev error_or : {X : Type 0} → Refusal → Result X Refusal → Refusal
+error_or f (Ok _) = f
+error_or f (Err g) = g
+
+-- what `?` hands on where `ok_or` met no value
+pub handed_on : {X A : Type 0} (o : Option X) (f g : Refusal) (r : Result A Refusal) → Err g ≡ ok_or o f → o ≡ None → IsErrAnd r (λ e. e ≡ g) → r ≡ Err f
+handed_on o f g (Ok _) given none same = absurd same
+handed_on o f g (Err e) given none same = ap Err (same ∙ ap (error_or f) given ∙ ap (λ p. error_or f (ok_or p f)) none)

@@ -10,7 +10,7 @@ use Rattle.analysis.specs.declared.sources.Source.{Source}
 use Rattle.analysis.specs.Sources.{EachTakes, Gathered, MostOf, budget_of, source_of, task_of}
 
 -- the sources of a question, by their budgets
-abbrev Source-of : (ℕ → ℕ) → ℕ → ℕ → Type 0
+abbrev pub Source-of : (ℕ → ℕ) → ℕ → ℕ → Type 0
 Source-of b i j = (j ≤ i) × (1 ≤ b j)
 
 -- one of the first n passes, or none does

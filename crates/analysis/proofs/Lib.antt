@@ -1,8 +1,9 @@
+pub mod Chains
 pub mod Windows
-pub mod Steps
 pub mod Bounds
-pub mod PackSteps
 pub mod Gathers
+pub mod PackSteps
+pub mod Steps
 pub mod Final
 pub mod Asked
 pub mod Promised

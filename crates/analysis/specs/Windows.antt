@@ -23,7 +23,6 @@ AnswersWindow m ts i (Ok a) =
     Passed (window_tests m ts i) × BusyLength m (wcet_of ts) every i a.0 × (a.1 ≡ arrivals m every i a.0)
 AnswersWindow m ts i (Err f) = Refused (window_tests m ts i) (refusal_number f)
 
--- the first tests of every question
-abbrev pub OfTable : Meaning → Table → ℕ → Result (Unit {0}) Refusal → Type 0
-OfTable m t i (Ok _) = (m.tasks ≡ t.tasks) × (i < t.tasks)
-OfTable m t i (Err f) = Refused ((m.tasks ≡ t.tasks, 30) ∷ (i < t.tasks, 31) ∷ []) (refusal_number f)
+-- the model belongs to the table, and the task is in it
+abbrev pub OfTable : Meaning → Table → ℕ → Type 0
+OfTable m t i = (m.tasks ≡ t.tasks) × (i < t.tasks)

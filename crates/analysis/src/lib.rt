@@ -1,12 +1,12 @@
 // The analysis of a closed table under an arrival model.
 #![tactic(auto)]
 
-mod level;
+mod busy;
 mod minimal;
-pub mod number;
 mod packing;
 pub mod question;
 pub mod refusal;
+mod safe;
 mod sources;
 mod subsets;
 pub mod window;

@@ -1,12 +1,13 @@
 // The sources of a question: the tasks whose overload can make a job late, each with its budget.
-ghost use Rattle.std.specs.Prelude.{◌≡◌, ◌<◌, MatchOption, nat_le};
-ghost use Rattle.base.specs.Bounded.{held};
+ghost use Rattle.std.specs.Prelude.{◌≡◌, ◌<◌, ◌≤◌, MatchOption, nat_le};
 ghost use Rattle.theory.specs.Sums.{count as count_below};
-ghost use Rattle.analysis.specs.Sources.{Gathered, budget_within};
+ghost use Rattle.analysis.specs.Sources.{Gathered, Sources, budget_within};
 
 use arrival::ArrivalModel;
 use arrival::class::Class;
 use base::bounded::BoundedList;
+
+const MAX_SOURCES: usize = 6;
 
 // A task, and how often its overload counts at most.
 #[derive(Clone, Copy)]
@@ -15,31 +16,45 @@ pub(crate) struct Source {
     pub(crate) budget: u16,
 }
 
-// The budget of a task: how many overload releases a stretch of the length `reach` holds, k at most.
-pub(crate) fn budget_of<M: ArrivalModel>(model: &M, k: u16, task: u8, reach: u32) -> u16
-    ensures { result ≡ budget_within (M.meaning model.now) k reach task }
-{
-    let count = model.count(task, Class::Overload, reach);
-    if count < k as u32 { count as u16 } else { k }
+// At most six tasks, no two the same, with budgets of at most 1,000.
+#[derive(Drop)]
+pub(crate) struct SourceList {
+    pub(crate) sources: BoundedList<Source, MAX_SOURCES>,
+    ghost lawful: { Sources sources },
 }
 
-// The sources among the first n tasks; none where there are more than six.
-pub(crate) fn gather<M: ArrivalModel>(
-    model: &M,
-    k: u16,
-    n: u8,
-    reach: u32,
-) -> Option<BoundedList<Source, 6>>
-    ensures { MatchOption result (6 < count_below (λ j. nat_le 1 (budget_within (M.meaning model.now) k reach j)) n) (λ found. Gathered (budget_within (M.meaning model.now) k reach) n (held found)) }
-{
-    let mut found = BoundedList::new(Source { task: 0, budget: 0 });
-    for task in 0..n {
-        let budget = budget_of(model, k, task, reach);
-        if budget > 0 {
-            if !found.push(Source { task, budget }) {
-                return None;
+// How often overload counts: so often as a stretch of the length `reach` holds it, k at most.
+#[derive(Drop)]
+pub(crate) struct Budgets<'a, M> {
+    pub(crate) model: &'a M,
+    pub(crate) k: u16,
+    pub(crate) reach: u32,
+    ghost few: { k ≤ 1000 },
+}
+
+impl<'a, M: ArrivalModel> Budgets<'a, M> {
+    // The budget of a task.
+    fn of(&self, task: u8) -> u16
+        ensures { let b = self.now in result ≡ budget_within (M.meaning b.model.now) b.k b.reach task }
+    {
+        let count = self.model.count(task, Class::Overload, self.reach);
+        count.min(self.k as u32) as u16
+    }
+
+    // The sources among the first n tasks; none where there are more than six.
+    pub(crate) fn sources(&self, n: u8) -> Option<SourceList>
+        requires { n ≤ 32 }
+        ensures { let b = self.now in
+            let budget = budget_within (M.meaning b.model.now) b.k b.reach in
+            MatchOption result (6 < count_below (λ j. nat_le 1 (budget j)) n) (λ found. Gathered budget n found.sources) }
+    {
+        let mut sources = BoundedList::new(Source { task: 0, budget: 0 });
+        for task in 0..n {
+            let budget = self.of(task);
+            if budget > 0 {
+                sources.push(Source { task, budget }).ok()?;
             }
         }
+        Some(SourceList { sources })
     }
-    Some(found)
 }

@@ -1,34 +1,37 @@
 // The sets of sources, each behind its own subsets.
 ghost use Rattle.std.specs.Prelude.{◌≡◌, ◌+◌, ◌<◌, ◌≤◌, length};
-ghost use Rattle.base.specs.Bounded.{held};
 ghost use Rattle.theory.specs.Search.{Lacks, Subsets, doubled};
-ghost use Rattle.analysis.specs.Sources.{Sources, masks, source_of};
+ghost use Rattle.analysis.specs.Sources.{source_of};
 
-use crate::sources::Source;
+use crate::sources::SourceList;
 use base::bounded::BoundedList;
 use loads::combination::Combination;
 
+// Six sources have so many sets.
+pub(crate) const MAX_SETS: usize = 64;
+
 // Each set once more, with the task.
-fn add_task(sets: &mut BoundedList<Combination, 64>, task: u8)
-    requires { (task < 32) × ((length (held sets.old) ≤ 32) × (Lacks (masks (held sets.old)) task)) }
-    ensures sets { masks (held sets.new) ≡ doubled task (masks (held sets.old)) }
-    ensures len { length (held sets.new) ≡ length (held sets.old) + length (held sets.old) }
+fn add_task(sets: &mut BoundedList<Combination, MAX_SETS>, task: u8)
+    requires { (task < 32) × (length sets.old ≤ 32) × Lacks sets.old task }
+    ensures sets { sets.new ≡ doubled task sets.old }
+    ensures len { length sets.new ≡ length sets.old + length sets.old }
 {
+    // By place: the list grows while it is read, so no borrow of it can stand.
     for place in 0..sets.len() {
-        if let Some(set) = sets.get(place) {
-            sets.push(set.with(task));
-        }
+        let set = sets.as_slice()[place];
+        sets.push(set.with(task)).unwrap();
     }
 }
 
-pub(crate) fn subsets(sources: &[Source]) -> BoundedList<Combination, 64>
-    requires { Sources sources.now }
-    ensures { Subsets (source_of sources.now) (masks (held result)) }
-{
-    let mut sets = BoundedList::new(Combination::none());
-    sets.push(Combination::none());
-    for source in sources {
-        add_task(&mut sets, source.task);
+impl SourceList {
+    pub(crate) fn subsets(&self) -> BoundedList<Combination, MAX_SETS>
+        ensures { Subsets (source_of self.now.sources) result }
+    {
+        let mut sets = BoundedList::new(Combination::none());
+        sets.push(Combination::none()).unwrap();
+        for source in self.sources.as_slice() {
+            add_task(&mut sets, source.task);
+        }
+        sets
     }
-    sets
 }

@@ -1,5 +1,5 @@
 // The model that has a curve for each task and class; it holds the first 255 tasks that it is given.
-ghost use Rattle.std.specs.Prelude.{◌≡◌, min, length, Some};
+ghost use Rattle.std.specs.Prelude.{◌≡◌, min, length, take, Some};
 ghost use Rattle.arrival.specs.Tasks.{option_count, task_count, curves_meaning};
 ghost use Rattle.arrival.specs.TasksLaws.{option_laws, curves_lawful};
 
@@ -44,11 +44,13 @@ impl<'a, C> CurveModel<'a, C> {
         CurveModel { tasks }
     }
 
-    // How many tasks the model holds.
-    fn held(&self) -> usize
-        ensures { result ≡ min (length self.now.tasks.now) 255 }
+    // The tasks that the model holds.
+    #[tactic(auto, using(std::proofs::lemmas::List::take_min))]
+    fn held(&self) -> &[TaskCurves<C>]
+        ensures value { result.now ≡ take 255 self.now.tasks.now }
+        ensures len { length result.now ≡ min (length self.now.tasks.now) 255 }
     {
-        self.tasks.len().min(MAX_HELD as usize)
+        &self.tasks[..(MAX_HELD as usize).min(self.tasks.len())]
     }
 }
 
@@ -66,14 +68,12 @@ impl<'a, C: ArrivalCurve> ArrivalModel for CurveModel<'a, C> {
     ghost absent_is_zero = { λ m. (curves_lawful C.ArrivalCurve.counts C.ArrivalCurve.lawful m.tasks.now).absent_is_zero };
 
     fn tasks(&self) -> u8 {
-        self.held() as u8
+        self.held().len() as u8
     }
 
     fn count(&self, task: u8, class: Class, length: u32) -> u32 {
-        let i = task as usize;
-        if i >= self.held() {
-            return 0;
-        }
-        self.tasks[i].count(class, length)
+        self.held()
+            .get(task as usize)
+            .map_or(0, |curves| curves.count(class, length))
     }
 }

@@ -1,4 +1,4 @@
-pub mod Held
-pub mod Numbers
+pub mod Lists
 pub mod Faults
 pub mod Tests
+pub mod Results

@@ -1,4 +1,3 @@
-pub mod Bounded
 pub mod Numbers
 pub mod Faults
 pub mod Tests

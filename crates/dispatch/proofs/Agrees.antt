@@ -1,12 +1,12 @@
 -- In every execution the log follows the one schedule that keeps the service rule.
-use Rattle.std.proofs.Common.{◌≡◌, ℕ, suc, ◌+◌, ◌<◌, ◌≤◌, false, List, [], ◌∷◌, ◌++◌, map, length, take, drop, set, Some, None, Ok, Err, Option, sym, refl, ap, ◌∙◌, subst, ⊎_elim, arith}
+use Rattle.std.proofs.Common.{◌≡◌, ℕ, suc, ◌+◌, ◌<◌, ◌≤◌, false, List, [], ◌∷◌, ◌++◌, length, set, Some, None, Ok, Err, Option, sym, refl, ap, ◌∙◌, subst, ⊎_elim, arith}
 use Rattle.std.proofs.lemmas.Bool.{cases_eq, cond-true, cond-false, eq-eqb, ne_eqb}
-use Rattle.std.proofs.lemmas.List.{length_push, length-set, length-map, length-take-le, length-append, get_or-set_same, get_or-set_other, get_or-take, get_or-map, get_or_append_left, take-append-drop}
+use Rattle.std.proofs.lemmas.Grind.{common_steps}
+use Rattle.std.proofs.lemmas.List.{length-take, length-drop, length_push, length-set, length-map, length-take-le, length-append, get_or-set_same, get_or-set_other, get_or-take, get_or-map, get_or_append_left}
 use Rattle.arrival.specs.declared.class.Class.{Class}
 use Rattle.arrival.specs.Meaning.{Meaning}
 use Rattle.loads.specs.Tables.{table_of}
-use Rattle.tables.specs.declared.table.ClosedTable.{ClosedTable}
-use Rattle.tables.specs.Tables.{closed_tasks}
+use Rattle.tables.specs.Tables.{ClosedTable, tasks_of}
 use Rattle.theory.specs.Service.{Served}
 use Rattle.theory.specs.Schedules.{Job, job, Schedule, done, Unfinished}
 use Rattle.dispatch.specs.declared.record.JobRecord.{JobRecord}
@@ -27,7 +27,7 @@ released_by (accepted tick ∷ es) j h = let ih = released_by es j h in omega ar
 released_by (refused call ∷ es) j h = released_by es j h
 
 abbrev deadlines : ClosedTable → ℕ → ℕ
-deadlines table = (table_of (closed_tasks table)).deadline
+deadlines table = (table_of (tasks_of table)).deadline
 
 begun : (table : ClosedTable) (run : Run) (log : List JobRecord) → Fresh table run → LogAgrees table [] run log
 begun table run log f = record {
@@ -41,21 +41,14 @@ begun table run log f = record {
 
 -- what a tick writes
 get_d_marked : (t n j : ℕ) (xs : List JobRecord) → n ≤ length xs → j < n → record_at (marked_log t n xs) j ≡ marked t (record_at xs j)
-get_d_marked t n j xs le h =
-    let long = length-take-le n xs le in
-    let short : j < length (take n xs) = omega arith in
-    let there : j < length (map (marked t) (take n xs)) = omega (arith, length-map (take n xs) (marked t)) in
-    get_or_append_left (map (marked t) (take n xs)) (drop n xs) no_record j there ∙ get_or-map (marked t) (take n xs) j no_record no_record short
-    ∙ ap (marked t) (get_or-take n xs j no_record h)
+get_d_marked t n j xs le h = grind (arith, common_steps, get_or_append_left, get_or-map, get_or-take, length-take-le, length-map)
 
 length-served : (t : ℕ) (xs : List JobRecord) (o : Option ℕ) → length (served_log t xs o) ≡ length xs
 length-served t xs None = refl
 length-served t xs (Some i) = length-set xs i _
 
 length_marked : (t n : ℕ) (xs : List JobRecord) → length (marked_log t n xs) ≡ length xs
-length_marked t n xs =
-    length-append (map (marked t) (take n xs)) (drop n xs) ∙ ap (λ m. m + length (drop n xs)) (length-map (take n xs) (marked t))
-    ∙ sym (length-append (take n xs) (drop n xs)) ∙ ap length (take-append-drop n xs)
+length_marked t n xs = simp (length-append, length-map, length-take, length-drop) (omega arith)
 
 module _ (dl : ℕ → ℕ) (jobs : List Job) (s : Schedule) (c : ℕ) (log : List JobRecord) (room : length jobs ≤ length log)
     (records : (j : ℕ) → j < length jobs → record_at log j ≡ recorded dl (job jobs j) (done s j) c) where

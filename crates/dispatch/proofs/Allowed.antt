@@ -1,63 +1,64 @@
 -- The test of the windows, from the newest record back.
-use Rattle.std.proofs.Common.{◌≡◌, ℕ, ◌+◌, ◌-◌, ◌<◌, ◌≤◌, Bool, true, false, cond, List, length, drop, count_by, sym, ap, subst, ⊎_elim, arith}
-use Rattle.std.proofs.lemmas.List.{at_drop_all}
-use Rattle.std.proofs.lemmas.List.Sums.{sum_by-drop_more}
-use Rattle.std.proofs.lemmas.Bool.{both_ways, cases_eq, cond-true, cond-false}
+use Rattle.std.proofs.Common.{◌≡◌, ℕ, zero, suc, ◌+◌, ◌-◌, ◌≤◌, Bool, true, cond, ◌&&◌, leb, Decides, filter, List, [], ◌∷◌, ◌++◌, length, reverse, count_by, sym, refl, ap, ◌∙◌, arith}
+use Rattle.std.proofs.Math.Bool.{and-true}
+use Rattle.std.proofs.lemmas.Grind.{common_steps}
+use Rattle.std.proofs.lemmas.Bool.Decides.{Decides-and, nat_tests}
+use Rattle.std.proofs.lemmas.List.{length-append, reverse-append}
+use Rattle.std.proofs.lemmas.List.Elements.{filter-append}
+use Rattle.std.proofs.lemmas.List.Folds.{list_all-append}
+use Rattle.std.proofs.lemmas.List.Sums.{sum_by-cons}
+use Rattle.std.specs.List.{enumerate_from, list_all}
 use Rattle.dispatch.specs.declared.record.JobRecord.{JobRecord}
-use Rattle.dispatch.specs.Records.{no_record, record_at, WindowsAllow}
+use Rattle.dispatch.specs.Records.{WindowsAllow}
 
-module _ (count : ℕ → ℕ) (clock : ℕ) (kind : JobRecord → Bool) (log : List JobRecord) where
-  abbrev pub Within : ℕ → Type 0
-  Within g = kind (record_at log g) ≡ true → count_by kind (drop g log) + 1 ≤ count (1 + (clock - (record_at log g).release))
+enumerate-append : {X : Type 0} (n : ℕ) (xs ys : List X) → enumerate_from n (xs ++ ys) ≡ enumerate_from n xs ++ enumerate_from (n + length xs) ys
+enumerate-append n [] ys = let e : n ≡ n + 0 = omega arith in ap (λ k. enumerate_from k ys) e
+enumerate-append n (x ∷ xs) ys =
+    let e : n + 1 + length xs ≡ n + suc (length xs) = omega arith in
+    ap (λ ps. (n, x) ∷ ps) (enumerate-append (n + 1) xs ys ∙ ap (λ k. enumerate_from (n + 1) xs ++ enumerate_from k ys) e)
 
-  -- the records from place i on: how many are of the kind, and that one more is allowed from each
-  pub record AllowedFrom (i same : ℕ) : Type 0 where
-    pub few : same + i ≤ length log
-    pub counted : same ≡ count_by kind (drop i log)
-    pub allowed : (g : ℕ) → i ≤ g → g < length log → Within g
+module _ (count : ℕ → ℕ) (clock : ℕ) (kind : JobRecord → Bool) where
+  -- the records of the kind, newest first
+  abbrev newest : List JobRecord → List JobRecord
+  newest log = filter kind (reverse log)
 
-  pub allowed-none : AllowedFrom (length log) 0
-  allowed-none = record {
-    few = omega arith;
-    counted = sym (at_drop_all (count_by kind) log (length log) (omega arith));
-    allowed = λ g from below. absurd (omega arith);
-  }
+  -- one more job behind a record and the n of the kind behind it
+  abbrev pub fits : ℕ × JobRecord → Bool
+  fits p = leb (p.0 + 1 + 1) (count (1 + (clock - p.1.release)))
 
--- one place back from place i
-module _ {count : ℕ → ℕ} {clock : ℕ} {kind : JobRecord → Bool} {log : List JobRecord} {i same : ℕ} (a : AllowedFrom count clock kind log i same) where
-  pub allowed_all : i ≡ 0 → WindowsAllow count clock kind log
-  allowed_all first g h = a.allowed g (omega arith) h
+  abbrev pub windows_test : List JobRecord → Bool
+  windows_test log = list_all fits (enumerate_from 0 (newest log))
 
-  module _ (some : 0 < i) (h : i ≤ length log) where
-    more : Within count clock kind log (i - 1) → (g : ℕ) → i - 1 ≤ g → g < length log → Within count clock kind log g
-    more here g from below =
-        ⊎_elim (λ e. subst (Within count clock kind log) e here) (λ differ. a.allowed g (omega arith) below) (cases_eq (i - 1) g)
+  one_older : (g : JobRecord) (log : List JobRecord) → newest (g ∷ log) ≡ newest log ++ cond (kind g) (g ∷ []) []
+  one_older g log = ap (filter kind) (reverse-append (g ∷ []) log) ∙ filter-append kind (reverse log) (g ∷ [])
 
-    counted_back : count_by kind (drop (i - 1) log) ≡ cond (kind (record_at log (i - 1))) 1 0 + same
-    counted_back =
-        let at : i - 1 + 1 ≡ i = omega arith in
-        let e = sum_by-drop_more (λ g. cond (kind g) 1 0) log (i - 1) no_record (omega arith) in
-        let s = ap (λ n. count_by kind (drop n log)) at in
-        omega (arith, a.counted)
+  length-newest : (log : List JobRecord) → length (newest log) ≡ count_by kind log
+  length-newest [] = refl
+  length-newest (g ∷ log) = grind (arith, common_steps, nat_tests, one_older, length-append, length-newest log, sum_by-cons)
 
-    counted_kind : kind (record_at log (i - 1)) ≡ true → count_by kind (drop (i - 1) log) ≡ same + 1
-    counted_kind is = let one = cond-true {A = ℕ} (kind (record_at log (i - 1))) 1 0 is in omega (arith, counted_back)
+  -- what is asked of the oldest record
+  abbrev Oldest : JobRecord → List JobRecord → Type 0
+  Oldest g log = kind g ≡ true → count_by kind (g ∷ log) + 1 ≤ count (1 + (clock - g.release))
 
-    pub allowed_kind : kind (record_at log (i - 1)) ≡ true → same + 2 ≤ count (1 + (clock - (record_at log (i - 1)).release)) → AllowedFrom count clock kind log (i - 1) (same + 1)
-    allowed_kind is le = record {
-      few = omega (arith, a.few);
-      counted = sym (counted_kind is);
-      allowed = more (λ _. omega (arith, counted_kind is));
-    }
+  abbrev oldest_test : JobRecord → List JobRecord → Bool
+  oldest_test g log = cond (kind g) (fits (count_by kind log, g)) true
 
-    pub allowed_other : kind (record_at log (i - 1)) ≡ false → AllowedFrom count clock kind log (i - 1) same
-    allowed_other no_kind =
-        let none = cond-false {A = ℕ} (kind (record_at log (i - 1))) 1 0 no_kind in
-        record {
-          few = omega (arith, a.few);
-          counted = omega (arith, counted_back);
-          allowed = more (λ is. absurd (both_ways (kind (record_at log (i - 1))) no_kind is));
-        }
+  test_more : (g : JobRecord) (log : List JobRecord) → windows_test (g ∷ log) ≡ (windows_test log && oldest_test g log)
+  test_more g log = grind (arith, common_steps, nat_tests, one_older, enumerate-append, list_all-append, length-newest, and-true)
 
-    pub not-allowed : kind (record_at log (i - 1)) ≡ true → count (1 + (clock - (record_at log (i - 1)).release)) < same + 2 → WindowsAllow count clock kind log → ⊥
-    not-allowed is lt all = omega (arith, all (i - 1) (omega arith) is, counted_kind is)
+  oldest_decides : (g : JobRecord) (log : List JobRecord) → Decides (oldest_test g log) (Oldest g log)
+  oldest_decides g log =
+      let more = sum_by-cons (λ x. cond (kind x) 1 0) g log in
+      ((λ e is. grind (arith, nat_tests)), λ asked. grind (arith, nat_tests))
+
+  older_allow : (g : JobRecord) (log : List JobRecord) → WindowsAllow count clock kind log → Oldest g log → WindowsAllow count clock kind (g ∷ log)
+  older_allow g log all here zero h is = here is
+  older_allow g log all here (suc i) h is = all i (omega arith) is
+
+  pub windows_decide : (log : List JobRecord) → Decides (windows_test log) (WindowsAllow count clock kind log)
+  windows_decide [] = ((λ _ i h _. absurd (omega arith)), λ _. refl)
+  windows_decide (g ∷ log) =
+      let both = Decides-and (windows_test log) (oldest_test g log) (windows_decide log) (oldest_decides g log) in (
+        (λ e. let parts = both.0 (sym (test_more g log) ∙ e) in older_allow g log parts.0 parts.1),
+        λ all. test_more g log ∙ both.1 ((λ i h is. all (suc i) (omega arith) is), all 0 (omega arith)),
+      )

@@ -1,14 +1,14 @@
 -- The jobs of every execution keep to the table and the model.
-use Rattle.std.proofs.Common.{◌≡◌, ℕ, suc, ◌+◌, ◌-◌, ◌^◌, ◌<◌, ◌≤◌, Bool, true, cond, ◌&&◌, eqb, ltb, leb, List, [], ◌∷◌, ◌++◌, map, length, take, Ok, Err, count_by, sym, refl, ap, ◌∙◌, subst, ⊎_elim, arith}
+use Rattle.std.proofs.Common.{◌≡◌, ℕ, suc, ◌+◌, ◌-◌, ◌^◌, ◌<◌, ◌≤◌, Bool, true, cond, eqb, List, [], ◌∷◌, ◌++◌, map, length, take, Ok, Err, count_by, sym, refl, ap, ◌∙◌, subst, ⊎_elim, arith}
 use Rattle.std.proofs.lemmas.List.Sums.{sum_by-cons, sum_by_push}
-use Rattle.std.proofs.lemmas.Bool.{cases_Bool, and_parts, and_from, cond-true, cond-false, eqb-true, leb-true, ltb-true}
+use Rattle.std.proofs.lemmas.Bool.Decides.{nat_tests}
+use Rattle.std.proofs.lemmas.Bool.{cases_Bool, and_from, cond-true, cond-false, eqb-true}
 use Rattle.std.proofs.lemmas.List.{length_push, length-take-le, length-map, get_or-map, get_or-take, ext_get_or}
 use Rattle.arrival.specs.declared.class.Class.{Class}
 use Rattle.arrival.specs.declared.class.Class.TheVariants.{Typical, Overload}
 use Rattle.arrival.specs.Meaning.{Meaning, Monotone, Lawful}
 use Rattle.loads.specs.Tables.{table_of}
-use Rattle.tables.specs.declared.table.ClosedTable.{ClosedTable}
-use Rattle.tables.specs.Tables.{closed_tasks}
+use Rattle.tables.specs.Tables.{ClosedTable, tasks_of}
 use Rattle.theory.specs.Conforming.{Conforming, in_window, same_class}
 use Rattle.theory.specs.Schedules.{Job, job}
 use Rattle.dispatch.specs.declared.record.JobRecord.{JobRecord}
@@ -22,8 +22,8 @@ use Rattle.dispatch.proofs.Schedules.{each-job}
 
 same_from_test : (a b : Class) → same_class a b ≡ true → a ≡ b
 same_from_test Typical Typical e = refl
-same_from_test Typical Overload e = let z : ◌≡◌ {A = ℕ} 0 1 = cc in absurd (omega arith)
-same_from_test Overload Typical e = let z : ◌≡◌ {A = ℕ} 0 1 = cc in absurd (omega arith)
+same_from_test Typical Overload e = cc
+same_from_test Overload Typical e = cc
 same_from_test Overload Overload e = refl
 
 -- jobs are entered in the order of their releases
@@ -51,11 +51,7 @@ record Inside (i : ℕ) (k : Class) (u w : ℕ) (x : Job) : Type 0 where
   pub before : x.release < u + w
 
 inside : (i : ℕ) (k : Class) (u w : ℕ) (x : Job) → in_window i k u w x ≡ true → Inside i k u w x
-inside i k u w x e =
-    let both = and_parts (eqb x.task i && same_class k x.class) (leb u x.release && ltb x.release (u + w)) e in
-    let kind = and_parts (eqb x.task i) (same_class k x.class) both.0 in
-    let window = and_parts (leb u x.release) (ltb x.release (u + w)) both.1 in
-    record { task = kind.0; class = kind.1; from = leb-true _ _ window.0; before = ltb-true _ _ window.1 }
+inside i k u w x e = record { task = grind (arith, nat_tests); class = grind (arith, nat_tests); from = grind (arith, nat_tests); before = grind (arith, nat_tests) }
 
 -- a window up to and with the clock has room for one more
 module _ (m : Meaning) (rises : Monotone m) (i : ℕ) (k : Class) (clock u w : ℕ) (low : u ≤ clock) (high : clock < u + w) (fits : w < 2 ^ 32) (one : 1 ≤ m.count i k 1) where
@@ -115,15 +111,15 @@ module _ (table : ClosedTable) (es : List Event) (run : Run) (log : List JobReco
 
 -- what is shown call by call
 record Kept (m : Meaning) (table : ClosedTable) (jobs : List Job) : Type 0 where
-  pub works : (j : ℕ) → j < length jobs → (1 ≤ (job jobs j).work) × ((job jobs j).work ≤ (table_of (closed_tasks table)).wcet (job jobs j).task)
+  pub works : (j : ℕ) → j < length jobs → (1 ≤ (job jobs j).work) × ((job jobs j).work ≤ (table_of (tasks_of table)).wcet (job jobs j).task)
   pub rated : Rated m jobs
 
 step : (m : Meaning) → Monotone m → (table : ClosedTable) (es : List Event) (run : Run) (log : List JobRecord) {e : Event} {run' : Run} {log' : List JobRecord}
     → LogAgrees table es run log → Kept m table (jobs_of es) → Step m run log e run' log' → Kept m table (jobs_of (e ∷ es))
 step m rises table es run log f ih (releases task class work (Ok r) run' log' e) = record {
   works = each-job (jobs_of es) (record { task = task; class = class; release = clock_of es; work = work })
-      (λ _ x. (1 ≤ x.work) × (x.work ≤ (table_of (closed_tasks table)).wcet x.task)) ih.works
-      (subst (λ (t : ClosedTable). (1 ≤ work) × (work ≤ (table_of (closed_tasks t)).wcet task)) f.same_table e.passed.1.1.0);
+      (λ _ x. (1 ≤ x.work) × (x.work ≤ (table_of (tasks_of table)).wcet x.task)) ih.works
+      (subst (λ (t : ClosedTable). (1 ≤ work) × (work ≤ (table_of (tasks_of t)).wcet task)) f.same_table e.passed.1.1.0);
   rated = rated-more table es run log f m rises task class work r run' log' e ih.rated;
 }
 step m rises table es run log f ih (releases task class work (Err x) run' log' e) = ih
@@ -135,7 +131,7 @@ kept m rises table (starts run log fresh) = record { works = λ j h. absurd (ome
 kept m rises table (goes_on es run log e run' log' x s) = step m rises table es run log (log_agrees m table es run log x) (kept m rises table x) s
 
 pub conforming : (m : Meaning) → Lawful m → (table : ClosedTable) (es : List Event) (run : Run) (log : List JobRecord) → Execution m table es run log
-    → Conforming m (table_of (closed_tasks table)) (jobs_of es) (clock_of es)
+    → Conforming m (table_of (tasks_of table)) (jobs_of es) (clock_of es)
 conforming m lawful table es run log x =
     let all = kept m lawful.monotone table x in
     record {

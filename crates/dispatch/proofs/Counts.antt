@@ -1,10 +1,9 @@
 -- Counts over lists.
-use Rattle.std.proofs.Common.{◌≡◌, ℕ, zero, suc, ◌+◌, ◌≤◌, Bool, true, cond, List, [], ◌∷◌, map, length, get_or, take, count_by, sym, refl, ap, ◌∙◌, ⊎_elim, add-one, arith}
+use Rattle.std.proofs.Common.{◌≡◌, ℕ, zero, suc, ◌+◌, ◌≤◌, Bool, true, cond, List, [], ◌∷◌, map, length, get_or, take, count_by, sym, refl, ap, ◌∙◌, add-one, arith}
 use Rattle.std.proofs.lemmas.List.{take_all}
-use Rattle.std.proofs.lemmas.List.Sums.{sum_by-cons, sum_by_more}
-use Rattle.std.proofs.lemmas.Bool.{cases_Bool, cond-true, cond-false}
+use Rattle.std.proofs.lemmas.List.Sums.{sum_by-cons, sum_by-le-sum_by, sum_by_more}
 use Rattle.theory.specs.Sums.{count}
-use Rattle.theory.proofs.Totals.{total_none, total-suc}
+use Rattle.theory.proofs.Totals.{cond_mono, total_none, total-suc}
 
 module _ {X : Type 0} where
   count_front : (p : X → Bool) (xs : List X) (d : X) (n : ℕ) → n ≤ length xs → count (λ j. p (get_or xs j d)) n ≡ count_by p (take n xs)
@@ -21,15 +20,8 @@ module _ {X : Type 0} where
 
   -- fewer pass a test that is stricter
   pub count_le : (loose strict : X → Bool) → ((x : X) → strict x ≡ true → loose x ≡ true) → (xs : List X) → count_by strict xs ≤ count_by loose xs
-  count_le loose strict sub [] = omega arith
-  count_le loose strict sub (x ∷ xs) =
-      let a = sum_by-cons (λ y. cond (loose y) 1 0) x xs in
-      let b = sum_by-cons (λ y. cond (strict y) 1 0) x xs in
-      let ih = count_le loose strict sub xs in
-      ⊎_elim
-      (λ yes. let p = cond-true {A = ℕ} (strict x) 1 0 yes in let q = cond-true {A = ℕ} (loose x) 1 0 (sub x yes) in omega arith)
-      (λ no. let p = cond-false {A = ℕ} (strict x) 1 0 no in omega arith)
-      (cases_Bool (strict x))
+  count_le loose strict sub xs =
+      sum_by-le-sum_by (λ x. cond (strict x) 1 0) (λ x. cond (loose x) 1 0) xs (λ x. cond_mono (strict x) (loose x) 1 1 (λ e. (sub x e, omega arith)))
 
   pub count_map : {Y : Type 0} (f : X → Y) (p : Y → Bool) (xs : List X) → count_by (λ x. p (f x)) xs ≡ count_by p (map f xs)
   count_map f p [] = refl

@@ -1,6 +1,8 @@
 pub mod Turns
+pub mod Fronts
+pub mod Least
+pub mod Waiting
 pub mod Allowed
-pub mod Parts
 pub mod Units
 pub mod Schedules
 pub mod Agrees

@@ -5,8 +5,7 @@ use Rattle.arrival.specs.declared.class.Class.{Class}
 use Rattle.arrival.specs.Meaning.{Meaning}
 use Rattle.base.specs.Tests.{Passed, Refused}
 use Rattle.loads.specs.Tables.{table_of}
-use Rattle.tables.specs.declared.table.ClosedTable.{ClosedTable}
-use Rattle.tables.specs.Tables.{closed_tasks}
+use Rattle.tables.specs.Tables.{ClosedTable, tasks_of}
 use Rattle.theory.specs.Service.{Served}
 use Rattle.dispatch.specs.declared.record.JobRecord.{JobRecord}
 use Rattle.dispatch.specs.declared.refusal.Refusal.{Refusal}
@@ -31,7 +30,7 @@ new_record run task class work = record {
   task = task;
   class = class;
   release = run.clock;
-  due = run.clock + (table_of (closed_tasks run.table)).deadline task;
+  due = run.clock + (table_of (tasks_of run.table)).deadline task;
   work = work;
   left = work;
   finish = 0;
@@ -42,9 +41,9 @@ module _ (m : Meaning) (run : Run) (log : List JobRecord) (task : ℕ) (class : 
   -- each with the number of its refusal
   abbrev pub release_tests : List (Type 0 × ℕ)
   release_tests =
-      (m.tasks ≡ length (closed_tasks run.table), 41)
-      ∷ (task < length (closed_tasks run.table), 42)
-      ∷ ((1 ≤ work) × (work ≤ (table_of (closed_tasks run.table)).wcet task), 43)
+      (m.tasks ≡ length (tasks_of run.table), 41)
+      ∷ (task < length (tasks_of run.table), 42)
+      ∷ ((1 ≤ work) × (work ≤ (table_of (tasks_of run.table)).wcet task), 43)
       ∷ (run.entered < length log, 44)
       ∷ (Allowed (m.count task class) run.clock (is_kind task class) (take run.entered log), 45)
       ∷ []

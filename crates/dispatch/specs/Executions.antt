@@ -3,8 +3,7 @@ use Rattle.std.specs.Prelude.{◌≡◌, ℕ, suc, ◌-◌, ◌<◌, ◌≤◌, 
 use Rattle.arrival.specs.declared.class.Class.{Class}
 use Rattle.arrival.specs.Meaning.{Meaning, Lawful}
 use Rattle.loads.specs.Tables.{table_of}
-use Rattle.tables.specs.declared.table.ClosedTable.{ClosedTable}
-use Rattle.tables.specs.Tables.{closed_tasks}
+use Rattle.tables.specs.Tables.{ClosedTable, tasks_of}
 use Rattle.theory.specs.Conforming.{Conforming}
 use Rattle.theory.specs.Schedules.{AtMostLate, Job, job, KeepsRule, Schedule, done, due, finish, late}
 use Rattle.dispatch.specs.declared.record.JobRecord.{JobRecord}
@@ -81,13 +80,13 @@ pub record LogAgrees (table : ClosedTable) (es : List Event) (run : Run) (log : 
   pub room : length (jobs_of es) ≤ length log
   pub schedule : Scheduled (jobs_of es) (clock_of es)
   pub records : (j : ℕ) → j < length (jobs_of es)
-      → record_at log j ≡ recorded (table_of (closed_tasks table)).deadline (job (jobs_of es) j) (done schedule.served j) (clock_of es)
+      → record_at log j ≡ recorded (table_of (tasks_of table)).deadline (job (jobs_of es) j) (done schedule.served j) (clock_of es)
 
 -- In every execution of the table under a lawful model the log agrees, and the jobs keep to the table and the model.
 abbrev pub ExecutionsAgree : ClosedTable → Type 0
 ExecutionsAgree table =
     (m : Meaning) → Lawful m → (es : List Event) (run : Run) (log : List JobRecord) → Execution m table es run log
-    → LogAgrees table es run log × Conforming m (table_of (closed_tasks table)) (jobs_of es) (clock_of es)
+    → LogAgrees table es run log × Conforming m (table_of (tasks_of table)) (jobs_of es) (clock_of es)
 
 -- In every execution of the table under the model the log agrees, and of each sequence of up to k jobs of task i within S ticks, at
 -- most a are late.
@@ -95,4 +94,4 @@ abbrev pub ExecutionPromise : Meaning → ClosedTable → ℕ → ℕ → ℕ �
 ExecutionPromise m table i k S a =
     (es : List Event) (run : Run) (log : List JobRecord) → Execution m table es run log
     → (f : LogAgrees table es run log)
-    × AtMostLate (table_of (closed_tasks table)).deadline (jobs_of es) f.schedule.served (clock_of es) i k S a
+    × AtMostLate (table_of (tasks_of table)).deadline (jobs_of es) f.schedule.served (clock_of es) i k S a

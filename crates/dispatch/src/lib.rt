@@ -2,7 +2,6 @@
 #![tactic(auto)]
 
 mod admission;
-pub mod number;
 pub mod record;
 pub mod refusal;
 pub mod run;

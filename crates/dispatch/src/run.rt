@@ -12,12 +12,14 @@ pub mod tick;
 pub struct Run {
     table: ClosedTable,
     clock: u32,
+    // beside the log, which is the caller's
     entered: usize,
     ghost clock_end: { clock ≤ 1000000000 },
 }
 
 // Given out with a run. It may be dropped only once it is spent, and only the end of a run spends it.
 pub struct RunToken {
+    // a flag, so that an edit can show that a drop is refused
     spent: bool,
 }
 

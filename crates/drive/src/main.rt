@@ -73,94 +73,92 @@ const BLANK: JobRecord = JobRecord {
     late: false,
 };
 
-fn class_name(class: Class) -> &'static str {
-    match class {
-        Class::Typical => "typical",
-        Class::Overload => "overload",
-    }
+// A run with its log and its model; each call of it is printed with the answer.
+struct Driver<'a, R, M> {
+    rt: &'a R,
+    model: &'a M,
+    run: Run,
+    log: &'a mut [JobRecord],
 }
 
-fn release<M: ArrivalModel>(
-    rt: &HostRuntime,
-    run: &mut Run,
-    model: &M,
-    log: &mut [JobRecord],
-    task: u8,
-    class: Class,
-    work: u32,
-) -> anyhow::Result<()> {
-    let clock = run.clock();
-    let name = class_name(class);
-    print!(rt; "clock {clock}: release {task} {name} {work}: ")?;
-    match run.release(model, log, task, class, work) {
-        Ok(count) => println!(rt; "entered, {count} of the task")?,
-        Err(refusal) => println!(rt; "refused {}", refusal.number())?,
-    }
-    Ok(())
-}
-
-fn ticks(rt: &HostRuntime, run: &mut Run, log: &mut [JobRecord], count: u32) -> anyhow::Result<()> {
-    for _ in 0..count {
-        let clock = run.clock();
-        print!(rt; "clock {clock}: tick: ")?;
-        match run.tick(log) {
-            Ok(Some(task)) => println!(rt; "task {task}")?,
-            Ok(None) => println!(rt; "idle")?,
-            Err(refusal) => println!(rt; "refused {}", refusal.number())?,
+impl<'a, R: Print, M: ArrivalModel> Driver<'a, R, M> {
+    fn release(&mut self, task: u8, class: Class, work: u32) -> anyhow::Result<()> {
+        let clock = self.run.clock();
+        print!(self.rt; "clock {clock}: release {task} {class} {work}: ")?;
+        match self.run.release(self.model, self.log, task, class, work) {
+            Ok(count) => println!(self.rt; "entered, {count} of the task")?,
+            Err(refusal) => println!(self.rt; "{refusal}")?,
         }
+        Ok(())
     }
-    Ok(())
-}
 
-fn show(rt: &HostRuntime, run: &Run, log: &[JobRecord]) -> anyhow::Result<()> {
-    let clock = run.clock();
-    for record in log.iter().take(run.entered()) {
-        let JobRecord {
-            task,
-            release,
-            due,
-            left,
-            finish,
-            late,
-            ..
-        } = *record;
-        println!(rt;
-            "clock {clock}: job of {task}, released {release}, due {due}, left {left}, finish {finish}, late {late}"
-        )?;
-    }
-    Ok(())
-}
-
-fn play<M: ArrivalModel>(
-    rt: &HostRuntime,
-    run: &mut Run,
-    model: &M,
-    log: &mut [JobRecord],
-    calls: &[Call],
-) -> anyhow::Result<()> {
-    for call in calls {
-        match *call {
-            Call::Release { task, class, work } => {
-                release(rt, run, model, log, task, class, work)?;
+    fn ticks(&mut self, count: u32) -> anyhow::Result<()> {
+        for _ in 0..count {
+            let clock = self.run.clock();
+            print!(self.rt; "clock {clock}: tick: ")?;
+            match self.run.tick(self.log) {
+                Ok(Some(task)) => println!(self.rt; "task {task}")?,
+                Ok(None) => println!(self.rt; "idle")?,
+                Err(refusal) => println!(self.rt; "{refusal}")?,
             }
-            Call::Ticks(count) => ticks(rt, run, log, count)?,
-            Call::Show => show(rt, run, log)?,
         }
+        Ok(())
     }
-    Ok(())
+
+    fn show(&self) -> anyhow::Result<()> {
+        let clock = self.run.clock();
+        for record in self.log.iter().take(self.run.entered()) {
+            let JobRecord {
+                task,
+                release,
+                due,
+                left,
+                finish,
+                late,
+                ..
+            } = *record;
+            println!(self.rt;
+                "clock {clock}: job of {task}, released {release}, due {due}, left {left}, finish {finish}, late {late}"
+            )?;
+        }
+        Ok(())
+    }
+
+    fn play(&mut self, calls: &[Call]) -> anyhow::Result<()> {
+        for call in calls {
+            // The calls are data: they are printed beside their answers.
+            match *call {
+                Call::Release { task, class, work } => self.release(task, class, work)?,
+                Call::Ticks(count) => self.ticks(count)?,
+                Call::Show => self.show()?,
+            }
+        }
+        Ok(())
+    }
 }
 
 // One execution, from a run just started to its end; the table comes back.
 fn execute<M: ArrivalModel>(
-    rt: &HostRuntime,
+    rt: &impl Print,
     table: ClosedTable,
     model: &M,
     calls: &[Call],
 ) -> anyhow::Result<ClosedTable> {
-    let mut log = [BLANK; 8];
-    let (mut run, token) = start(table);
-    let played = play(rt, &mut run, model, &mut log, calls);
-    let (table, late) = end(run, token, &log);
+    let (run, token) = start(table);
+    let mut driver = Driver {
+        rt,
+        model,
+        run,
+        log: &mut [BLANK; 8],
+    };
+    let played = driver.play(calls);
+    let Driver {
+        rt: _,
+        model: _,
+        run,
+        log,
+    } = driver;
+    let (table, late) = end(run, token, log);
     played?;
     println!(rt; "late jobs: {late}")?;
     Ok(table)
@@ -168,7 +166,7 @@ fn execute<M: ArrivalModel>(
 
 // How many of ten consecutive jobs of task 2 within 90 ticks can be late.
 fn bound<'a, M: ArrivalModel>(
-    rt: &HostRuntime,
+    rt: &impl Print,
     table: &'a ClosedTable,
     model: &'a M,
 ) -> anyhow::Result<()> {
@@ -177,13 +175,13 @@ fn bound<'a, M: ArrivalModel>(
         Ok(count) => println!(rt;
             "of any 10 jobs of task 2 within 90 ticks, late at most: {count}"
         )?,
-        Err(refusal) => println!(rt; "refused {}", refusal.number())?,
+        Err(refusal) => println!(rt; "{refusal}")?,
     }
     Ok(())
 }
 
 // Both executions, and the bound.
-fn both(rt: &HostRuntime, table: ClosedTable, settings: &Settings) -> anyhow::Result<()> {
+fn both(rt: &impl Print, table: ClosedTable, settings: &Settings) -> anyhow::Result<()> {
     let model = settings.model();
     let table = execute(rt, table, &model, &TOO_EARLY)?;
     let table = execute(rt, table, &model, &TOGETHER)?;
@@ -193,10 +191,7 @@ fn both(rt: &HostRuntime, table: ClosedTable, settings: &Settings) -> anyhow::Re
 fn main(rt: HostRuntime) -> anyhow::Result<()> {
     let mut file = Vec::new(rt.alloc());
     let _ = rt.stdin().read_to_end(&mut file)?;
-    let Ok(filler) = Task::new(1, 1) else {
-        return Ok(());
-    };
-    let mut table = OpenTable::new(filler);
+    let mut table = OpenTable::new(Task::new(1, 1).unwrap());
     let mut settings = Settings::new();
     if settings.read(file.as_slice(), &mut table).is_err() {
         println!(rt; "these are no settings")?;

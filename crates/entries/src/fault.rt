@@ -25,6 +25,7 @@ pub enum Cause {
 // Where: the section, the entry, numbered from 1 (0 is the section's count), and the offset of its first byte.
 #[derive(Clone, Copy, PartialEq, Eq, Debug)]
 pub struct Place {
+    // a number, since `new` takes any from its callers
     pub section: u8,
     pub entry: usize,
     pub byte: usize,
@@ -64,23 +65,23 @@ impl From<CurveFault> for Cause {
     }
 }
 
-impl From<(Cause, Place)> for FileFault {
-    ghost from_gives = { λ f r. (r.cause ≡ f.0) × (r.place ≡ f.1) };
+impl From<StaircaseFault> for Cause {
+    ghost from_gives = { λ f r. r ≡ InStaircase f };
 
-    fn from(f: (Cause, Place)) -> FileFault {
-        FileFault {
-            cause: f.0,
-            place: f.1,
-        }
+    fn from(f: StaircaseFault) -> Cause {
+        Cause::Staircase(f)
     }
 }
 
-impl From<(StaircaseFault, Place)> for FileFault {
-    ghost from_gives = { λ f r. (r.cause ≡ InStaircase f.0) × (r.place ≡ f.1) };
+impl<F> From<(F, Place)> for FileFault
+where
+    Cause: From<F>,
+{
+    ghost from_gives = { λ f r. (⟦<Cause as From<F>>⟧.from_gives f.0 r.cause) × (r.place ≡ f.1) };
 
-    fn from(f: (StaircaseFault, Place)) -> FileFault {
+    fn from(f: (F, Place)) -> FileFault {
         FileFault {
-            cause: Cause::Staircase(f.0),
+            cause: Cause::from(f.0),
             place: f.1,
         }
     }

@@ -7,11 +7,11 @@ use pjd::curve::CurveFault;
 use staircase::stairs::StaircaseFault;
 use tables::task::TaskFault;
 
-impl Cause {
-    pub fn number(self) -> u8
-        ensures { result ≡ cause_number self }
-    {
-        match self {
+impl From<Cause> for u8 {
+    ghost from_gives = { λ f n. n ≡ cause_number f };
+
+    fn from(cause: Cause) -> u8 {
+        match cause {
             Cause::Missing => 11,
             Cause::TaskCount => 12,
             Cause::Task(TaskFault::OutOfRange) => 13,

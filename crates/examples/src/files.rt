@@ -34,111 +34,37 @@ fn prints(
 
 #[test]
 fn one_byte_changed(rt: HostRuntime) -> Result<(), Fail> {
-    prints(&rt, &SHIPPED, 0, 3, "tasks 3\n")?;
-    prints(&rt, &SHIPPED, 0, 0, "refused 12 section 1 entry 0 byte 0\n")?;
-    prints(
-        &rt,
-        &SHIPPED,
-        0,
-        33,
-        "refused 12 section 1 entry 0 byte 0\n",
-    )?;
-    prints(
-        &rt,
-        &SHIPPED,
-        12,
-        0,
-        "refused 13 section 1 entry 2 byte 9\n",
-    )?;
-    prints(
-        &rt,
-        &SHIPPED,
-        25,
-        4,
-        "refused 14 section 2 entry 0 byte 25\n",
-    )?;
-    prints(
-        &rt,
-        &SHIPPED,
-        49,
-        21,
-        "refused 15 section 2 entry 1 byte 26\n",
-    )?;
-    prints(
-        &rt,
-        &SHIPPED,
-        98,
-        1,
-        "refused 16 section 3 entry 0 byte 98\n",
-    )?;
-    prints(
-        &rt,
-        &SHIPPED,
-        99,
-        17,
-        "refused 19 section 4 entry 0 byte 99\n",
-    )?;
-    prints(
-        &rt,
-        &SHIPPED,
-        99,
-        3,
-        "refused 11 section 4 entry 3 byte 114\n",
-    )?;
-    prints(
-        &rt,
-        &SHIPPED,
-        99,
-        1,
-        "refused 20 section 5 entry 0 byte 107\n",
-    )
+    for (at, value, line) in [
+        (0, 3, "tasks 3\n"),
+        (0, 0, "refused 12 section 1 entry 0 byte 0\n"),
+        (0, 33, "refused 12 section 1 entry 0 byte 0\n"),
+        (12, 0, "refused 13 section 1 entry 2 byte 9\n"),
+        (25, 4, "refused 14 section 2 entry 0 byte 25\n"),
+        (49, 21, "refused 15 section 2 entry 1 byte 26\n"),
+        (98, 1, "refused 16 section 3 entry 0 byte 98\n"),
+        (99, 17, "refused 19 section 4 entry 0 byte 99\n"),
+        (99, 3, "refused 11 section 4 entry 3 byte 114\n"),
+        (99, 1, "refused 20 section 5 entry 0 byte 107\n"),
+    ] {
+        prints(&rt, &SHIPPED, at, value, line)?;
+    }
+    Ok(())
 }
 
 #[test]
 fn staircase_faults(rt: HostRuntime) -> Result<(), Fail> {
-    prints(&rt, &STAIRS, 0, 1, "tasks 1\n")?;
-    prints(
-        &rt,
-        &STAIRS,
-        12,
-        65,
-        "refused 17 section 3 entry 1 byte 11\n",
-    )?;
-    prints(
-        &rt,
-        &STAIRS,
-        12,
-        64,
-        "refused 11 section 3 entry 1 byte 11\n",
-    )?;
-    prints(
-        &rt,
-        &STAIRS,
-        20,
-        2,
-        "refused 18 section 3 entry 1 byte 11\n",
-    )?;
-    prints(
-        &rt,
-        &STAIRS,
-        24,
-        1,
-        "refused 18 section 3 entry 1 byte 11\n",
-    )?;
-    prints(
-        &rt,
-        &STAIRS,
-        24,
-        10,
-        "refused 18 section 3 entry 1 byte 11\n",
-    )?;
-    prints(
-        &rt,
-        &STAIRS,
-        30,
-        1,
-        "refused 17 section 3 entry 2 byte 25\n",
-    )
+    for (at, value, line) in [
+        (0, 1, "tasks 1\n"),
+        (12, 65, "refused 17 section 3 entry 1 byte 11\n"),
+        (12, 64, "refused 11 section 3 entry 1 byte 11\n"),
+        (20, 2, "refused 18 section 3 entry 1 byte 11\n"),
+        (24, 1, "refused 18 section 3 entry 1 byte 11\n"),
+        (24, 10, "refused 18 section 3 entry 1 byte 11\n"),
+        (30, 1, "refused 17 section 3 entry 2 byte 25\n"),
+    ] {
+        prints(&rt, &STAIRS, at, value, line)?;
+    }
+    Ok(())
 }
 
 #[test]

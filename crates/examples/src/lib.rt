@@ -8,4 +8,6 @@ mod files;
 #[cfg(test)]
 mod questions;
 #[cfg(test)]
+mod three_tasks;
+#[cfg(test)]
 mod windows;

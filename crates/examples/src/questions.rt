@@ -1,32 +1,14 @@
 // Questions on the tables that were worked out by hand, with enough cells and with too few.
+use crate::three_tasks;
 use analysis::question::ask;
 use analysis::refusal::Refusal;
-use pjd::curve::PjdCurve;
-use pjd::{PjdCurves, PjdModel};
+use pjd::PjdModel;
 use std::test::Fail;
-use tables::table::OpenTable;
-use tables::task::Task;
 
 // How many of ten jobs of task 2 within 90 ticks can be late, where it has this deadline.
 fn third_task(deadline: u32, cells: &mut [u16]) -> Result<Result<u16, Refusal>, Fail> {
-    let mut table = OpenTable::new(Task::new(2, 5)?);
-    table.add(Task::new(3, 10)?)?;
-    table.add(Task::new(4, deadline)?)?;
-    let curves = [
-        PjdCurves {
-            typical: None,
-            overload: Some(PjdCurve::new(20, 0, 20)?),
-        },
-        PjdCurves {
-            typical: None,
-            overload: Some(PjdCurve::new(30, 0, 30)?),
-        },
-        PjdCurves {
-            typical: Some(PjdCurve::new(10, 0, 10)?),
-            overload: None,
-        },
-    ];
-    let table = table.close();
+    let table = three_tasks::table(deadline)?;
+    let curves = three_tasks::curves()?;
     let model = PjdModel::new(&curves);
     Ok(ask(&table, &model, 2, 10, 90, cells))
 }

@@ -1,4 +1,5 @@
 // The longest busy windows of tables that were worked out by hand.
+use crate::three_tasks;
 use analysis::refusal::Refusal;
 use analysis::window::busy_window;
 use pjd::curve::PjdCurve;
@@ -9,24 +10,8 @@ use tables::task::Task;
 
 #[test]
 fn three_tasks(rt: HostRuntime) -> Result<(), Fail> {
-    let mut table = OpenTable::new(Task::new(2, 5)?);
-    table.add(Task::new(3, 10)?)?;
-    table.add(Task::new(4, 8)?)?;
-    let curves = [
-        PjdCurves {
-            typical: None,
-            overload: Some(PjdCurve::new(20, 0, 20)?),
-        },
-        PjdCurves {
-            typical: None,
-            overload: Some(PjdCurve::new(30, 0, 30)?),
-        },
-        PjdCurves {
-            typical: Some(PjdCurve::new(10, 0, 10)?),
-            overload: None,
-        },
-    ];
-    let table = table.close();
+    let table = three_tasks::table(8)?;
+    let curves = three_tasks::curves()?;
     let model = PjdModel::new(&curves);
     assert_eq!(rt; busy_window(&table, &model, 2), Ok((9, 1)));
     assert_eq!(rt; busy_window(&table, &model, 3), Err(Refusal::NoSuchTask));

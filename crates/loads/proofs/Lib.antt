@@ -1,3 +1,4 @@
 pub mod Jumps
 pub mod Masks
 pub mod Tables
+pub mod Works

@@ -1,25 +1,30 @@
 // A set of tasks, as a mask with a bit for each.
-ghost use Rattle.std.specs.Prelude.{◌≡◌, ◌<◌, Decides, ◌==◌, bit_and, nat_lt};
-ghost use Rattle.theory.specs.Sets.{Subset, member as in_mask};
+ghost use Rattle.std.specs.Prelude.{◌≡◌, ◌<◌, true, Decides, ◌==◌, bit_and};
+ghost use Rattle.theory.specs.Sets.{Subset, member};
 ghost use Rattle.loads.specs.Added.{added};
-ghost use Rattle.loads.specs.Sets.{member};
+
+use std::marker::Model;
 
 #[derive(Clone, Copy, PartialEq, Eq, Debug)]
 pub struct Combination {
     mask: u32,
 }
 
-// Whether a mask has a bit for task j.
-fn has_bit(j: u8) -> bool
-    ensures { result ≡ nat_lt j 32 }
-{
-    j < 32
+// Clauses see the number that has these bits.
+impl Model for Combination {
+    ghost use Rattle.std.specs.Prelude.{ℕ};
+
+    ghost Value = { ℕ };
+
+    ghost view = { λ c. c.mask };
+
+    ghost inverse = { λ n. record { mask = n } };
 }
 
 // Whether bit j of the mask is set.
 fn bit(mask: u32, j: u8) -> bool
     requires { j < 32 }
-    ensures { result ≡ in_mask mask j }
+    ensures { result ≡ member mask j }
 {
     (mask >> j) & 1 == 1
 }
@@ -34,50 +39,48 @@ fn common(a: u32, b: u32) -> u32
 impl Combination {
     // Every task of a table.
     pub fn every() -> Combination
-        ensures { result.mask ≡ 4294967295 }
+        ensures { result ≡ 4294967295 }
     {
         Combination { mask: u32::MAX }
     }
 
     pub fn none() -> Combination
-        ensures { result.mask ≡ 0 }
+        ensures { result ≡ 0 }
     {
         Combination { mask: 0 }
     }
 
     pub fn is_empty(&self) -> bool
-        ensures { result ≡ (self.now.mask == 0) }
+        ensures { result ≡ (self.now == 0) }
     {
         self.mask == 0
     }
 
     // The set with task j added; it stays where no table has such a task.
     pub fn with(&self, j: u8) -> Combination
-        ensures { result.mask ≡ added self.now.mask j }
+        ensures { result ≡ added self.now j }
     {
-        if has_bit(j) {
-            Combination {
-                mask: self.mask | (1 << j),
-            }
-        } else {
-            *self
+        if j >= 32 {
+            return *self;
+        }
+        Combination {
+            mask: self.mask | (1 << j),
         }
     }
 
     // Whether every task in the set is in the other one too.
     pub fn is_subset(&self, other: &Combination) -> bool
-        ensures { Decides result (Subset self.now.mask other.now.mask) }
+        ensures { Decides result (Subset self.now other.now) }
     {
         common(self.mask, other.mask) == self.mask
     }
 
     // Whether task j is in the set; a table has 32 tasks at most.
     pub fn contains(&self, j: u8) -> bool
-        ensures held { result ≡ member self.now j }
-        ensures bit { result ≡ in_mask self.now.mask j }
+        ensures value { result ≡ member self.now j }
+        ensures low { result ≡ true → j < 32 }
     {
-        // Read first, so that it is known to have 32 bits.
-        let _mask = self.mask;
-        j < 32 && bit(self.mask, j)
+        let mask = self.mask;
+        j < 32 && bit(mask, j)
     }
 }

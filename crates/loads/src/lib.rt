@@ -6,6 +6,7 @@ ghost use Rattle.theory.specs.Least.{Least, Rises, Serves};
 
 pub mod combination;
 pub mod kinds;
+pub mod level;
 
 // Work that is due within a window, by the window's length.
 pub trait Load {

@@ -1,3 +1,3 @@
 pub mod Models
-pub mod Printed
+pub mod Read
 pub mod Answered

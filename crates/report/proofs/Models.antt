@@ -6,7 +6,6 @@ use Rattle.arrival.specs.declared.curve.TaskCurves.{TaskCurves}
 use Rattle.arrival.specs.Chain.{chain}
 use Rattle.arrival.specs.Tasks.{option_count, curves_meaning}
 use Rattle.arrival.proofs.Renamed.{renamed, curves-renamed}
-use Rattle.base.specs.Bounded.{held}
 use Rattle.entries.specs.Values.{curve_of, curves_of}
 use Rattle.file_format.specs.Models.{curve_count, by_class, two_by_two, model_of}
 use Rattle.pjd.specs.declared.curve.PjdCurve.{PjdCurve}
@@ -40,8 +39,8 @@ staircases_written : (ss : List (TaskCurves Staircase)) → map (renamed stairs_
 staircases_written [] = refl
 staircases_written (s ∷ ss) = ap (λ l. renamed stairs_of s ∷ l) (staircases_written ss)
 
-pub model_meant : (ts : List Task) (models : Settings) → chain (curves_meaning pjd_counts (held models.curves)) (curves_meaning staircase_counts (held models.staircases)) ≡ model_of (settings_of ts models)
+pub model_meant : (ts : List Task) (models : Settings) → chain (curves_meaning pjd_counts models.curves) (curves_meaning staircase_counts models.staircases) ≡ model_of (settings_of ts models)
 model_meant ts models =
-    let first = curves-renamed curve_of pjd_counts curve_count curve_same (held models.curves) ∙ ap (curves_meaning curve_count) (curves_written (held models.curves)) in
-    let second = curves-renamed stairs_of staircase_counts stairs_count (λ s w. refl) (held models.staircases) ∙ ap (curves_meaning stairs_count) (staircases_written (held models.staircases)) in
+    let first = curves-renamed curve_of pjd_counts curve_count curve_same models.curves ∙ ap (curves_meaning curve_count) (curves_written models.curves) in
+    let second = curves-renamed stairs_of staircase_counts stairs_count (λ s w. refl) models.staircases ∙ ap (curves_meaning stairs_count) (staircases_written models.staircases) in
     λ i. chain (first i) (second i)

@@ -1,6 +1,6 @@
 -- The lines that the program prints: words and numbers, single spaces between them, and byte 10 at the end.
 use Rattle.std.specs.Prelude.{ℕ, List, ◌++◌, length, Ok, Err, codes, decimal, Result}
-use Rattle.file_format.specs.File.{fault}
+use Rattle.entries.specs.Values.{fault_of}
 use Rattle.file_format.specs.Settings.{Settings, Fault}
 use Rattle.report.specs.declared.RefusalLine.{RefusalLine}
 
@@ -15,7 +15,7 @@ refused_line f =
     ++ (codes " byte " ++ (decimal f.byte ++ codes "\n")))))))
 
 abbrev pub line_fault : RefusalLine → Fault
-line_fault l = fault l.number l.section l.entry l.byte
+line_fault l = fault_of l.fault
 
 -- what is printed for a file that reads so
 abbrev pub printed : Result Settings Fault → List ℕ

@@ -1,3 +1,3 @@
+pub mod Staircases
 pub mod Steps
-pub mod Fits
 pub mod Reading

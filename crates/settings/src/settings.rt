@@ -1,11 +1,10 @@
 // What a settings file fills besides the table: the models of its tasks, and its questions.
-ghost use Rattle.std.specs.Prelude.{◌≡◌, ◌≤◌, true, length, is_ok};
-ghost use Rattle.base.specs.Bounded.{held};
+ghost use Rattle.std.specs.Prelude.{◌≡◌, true, is_ok};
 ghost use Rattle.file_format.specs.File.{settings};
 ghost use Rattle.file_format.specs.Settings.{Settings as FileSettings};
 ghost use Rattle.settings.specs.Read.{AreBytesOf, Empty, ReadsFile};
 ghost use Rattle.settings.specs.Values.{settings_of};
-ghost use Rattle.tables.specs.Tables.{open_tasks};
+ghost use Rattle.tables.specs.Tables.{tasks_of};
 
 use crate::reader::Reader;
 use arrival::chained::ChainedModel;
@@ -28,16 +27,6 @@ pub struct Settings<'a> {
     // of the tasks behind them; their points lie in the file
     pub(crate) staircases: BoundedList<Staircases<'a>, MAX_TASKS>,
     pub(crate) questions: BoundedList<Question, MAX_QUESTIONS>,
-}
-
-// The table holds these tasks in place of its own.
-fn refill(table: &mut OpenTable, tasks: BoundedList<Task, MAX_TASKS>)
-    requires { 1 ≤ length (held tasks) }
-    ensures { open_tasks table.new ≡ held tasks }
-{
-    if let Some(filled) = OpenTable::from_list(tasks) {
-        *table = filled;
-    }
 }
 
 impl<'a> Settings<'a> {
@@ -66,61 +55,52 @@ impl<'a> Settings<'a> {
         }
     }
 
-    // Holds no task and no question any more.
-    fn clear(&mut self)
-        ensures { Empty self.new }
-    {
-        *self = Settings::new();
-    }
-
-    // Reads the whole file into the table and these settings, or refuses it with its first fault: the table then stays,
-    // and the models hold no task.
+    // Reads the whole file into the table and these settings, in place, as their owner holds them, or refuses it with its
+    // first fault: the table then stays, and the models hold no task.
+    #[tactic(auto, using(crate::proofs::Reading::are_bytes, crate::proofs::Reading::same_settings, crate::proofs::Reading::no_bytes))]
     pub fn read(&mut self, file: &'a [u8], table: &mut OpenTable) -> Result<(), FileFault>
         ensures answer { ReadsFile (settings file.now) result table.old table.new self.new }
-        ensures accepted { is_ok result ≡ true → AreBytesOf file.now (settings_of (open_tasks table.new) self.new) }
-        ensures spelled { (s : FileSettings) → AreBytesOf file.now s → (is_ok result ≡ true) × (settings_of (open_tasks table.new) self.new ≡ s) }
+        ensures accepted { is_ok result ≡ true → AreBytesOf file.now (settings_of (tasks_of table.new) self.new) }
+        ensures spelled { (s : FileSettings) → AreBytesOf file.now s → (is_ok result ≡ true) × (settings_of (tasks_of table.new) self.new ≡ s) }
     {
         let filler = table.tasks()[0];
-        let mut reader = Reader::new(file, filler);
-        let outcome = reader.run();
-        let (tasks, settings) = reader.parts();
-        match outcome {
-            Ok(()) => {
-                refill(table, tasks);
+        match Reader::new(file, filler).run() {
+            Ok((tasks, settings)) => {
+                *table = OpenTable::from_list(tasks).unwrap();
                 *self = settings;
                 Ok(())
             }
             Err(f) => {
-                self.clear();
+                *self = Settings::new();
                 Err(f)
             }
         }
     }
 
     pub fn questions(&self) -> &[Question]
-        ensures { result.now ≡ held self.now.questions }
+        ensures { result.now ≡ self.now.questions }
     {
         self.questions.as_slice()
     }
 
     // The model of the first tasks.
     pub fn pjd_model(&self) -> PjdModel<'_>
-        ensures { result.tasks.now ≡ held self.now.curves }
+        ensures { result.tasks.now ≡ self.now.curves }
     {
         PjdModel::new(self.curves.as_slice())
     }
 
     // The model of the tasks behind them.
     pub fn staircase_model(&self) -> StaircaseModel<'_>
-        ensures { result.tasks.now ≡ held self.now.staircases }
+        ensures { result.tasks.now ≡ self.now.staircases }
     {
         StaircaseModel::new(self.staircases.as_slice())
     }
 
     // The model of all tasks.
     pub fn model(&self) -> ChainedModel<PjdModel<'_>, StaircaseModel<'_>>
-        ensures first { result.first.tasks.now ≡ held self.now.curves }
-        ensures second { result.second.tasks.now ≡ held self.now.staircases }
+        ensures first { result.first.tasks.now ≡ self.now.curves }
+        ensures second { result.second.tasks.now ≡ self.now.staircases }
     {
         ChainedModel {
             first: self.pjd_model(),

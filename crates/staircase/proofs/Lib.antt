@@ -1,4 +1,3 @@
-pub mod Bytes
-pub mod Rising
-pub mod Halving
-pub mod Filled
+pub mod Chunks
+pub mod Parted
+pub mod Counts

@@ -1,16 +1,15 @@
 // A staircase: points that repeat, in bytes that are borrowed and not copied.
-ghost use Rattle.std.specs.Prelude.{◌≡◌, ◌*◌, true, length};
-ghost use Rattle.staircase.specs.Stairs.{head_ok, points_ok, points};
+ghost use Rattle.std.specs.Prelude.{◌≡◌, true, length, map};
+ghost use Rattle.base.specs.Numbers.{number};
+ghost use Rattle.staircase.specs.Stairs.{head_ok, points_ok};
 
-// The points lie in `bytes`, four bytes each, highest first; there are n of them, and they repeat after `repeat` ticks.
+// The points, four bytes each, highest first; they repeat after `repeat` ticks.
 #[derive(Clone, Copy)]
 pub struct Staircase<'a> {
-    bytes: &'a [u8],
-    n: u16,
+    points: &'a [[u8; 4]],
     repeat: u32,
-    ghost whole: { length bytes.now ≡ 4 * n },
-    ghost head: { head_ok n repeat ≡ true },
-    ghost rising: { points_ok repeat (points n bytes.now) ≡ true },
+    ghost head: { head_ok (length points.now) repeat ≡ true },
+    ghost rising: { points_ok repeat (map (number 4 0) points.now) ≡ true },
 }
 
 // Why there is no such staircase.

@@ -1,14 +1,14 @@
-// The calls of a bounded list; its meaning is the list of the elements that it holds.
-ghost use Rattle.std.specs.Prelude.{◌≡◌, ◌+◌, ◌≤◌, [], ◌∷◌, ◌++◌, length, if◌then◌else◌, nat_lt, slice_set};
+// The calls of a bounded list.
+ghost use Rattle.std.specs.Prelude.{◌≡◌, ◌↔◌, ◌<◌, ◌≤◌, [], ◌∷◌, ◌++◌, length, IsOk, OnOk, IfErr, slice_set};
 ghost use Rattle.std.specs.List.{slice_get};
-ghost use Rattle.base.specs.Bounded.{held};
+ghost use Rattle.base.specs.declared.bounded.ListFault.TheVariants.{Full, NoSuchPlace};
 
-use super::BoundedList;
+use super::{BoundedList, ListFault};
 
 impl<T: Copy, const N: usize> BoundedList<T, N> {
     // The empty list; `filler` stands in the places that are not used.
     pub fn new(filler: T) -> BoundedList<T, N>
-        ensures { held result ≡ [] }
+        ensures { result ≡ [] }
     {
         BoundedList {
             items: [filler; N],
@@ -17,61 +17,49 @@ impl<T: Copy, const N: usize> BoundedList<T, N> {
     }
 
     pub fn len(&self) -> usize
-        ensures value { result ≡ length (held self.now) }
+        ensures value { result ≡ length self.now }
         ensures bound { result ≤ N }
     {
         self.as_slice().len()
     }
 
-    // One element more at the end; false where the list is full, and it then stays.
-    pub fn push(&mut self, x: T) -> bool
-        ensures value { result ≡ nat_lt (length (held self.old)) N }
-        ensures after { held self.new ≡ (if result then held self.old ++ x ∷ [] else held self.old) }
-        ensures len { length (held self.new) ≡ length (held self.old) + (if result then 1 else 0) }
+    // One element more at the end; a full list stays.
+    pub fn push(&mut self, x: T) -> Result<(), ListFault>
+        ensures variant { IsOk result ↔ (length self.old < N) }
+        ensures ok { OnOk result (self.new ≡ self.old ++ x ∷ []) }
+        ensures err { IfErr result (λ f. (f ≡ Full) × (self.new ≡ self.old)) }
     {
-        let i = self.len;
-        if i >= N {
-            return false;
+        if self.len >= N {
+            return Err(ListFault::Full);
         }
-        self.items[i] = x;
-        self.len = i + 1;
-        true
+        self.items[self.len] = x;
+        self.len += 1;
+        Ok(())
     }
 
-    // Whether there is an element at place i.
-    fn holds(&self, i: usize) -> bool
-        ensures { result ≡ nat_lt i (length (held self.now)) }
+    // Another element at place i; where there is no such place, the list stays.
+    pub fn set(&mut self, i: usize, x: T) -> Result<(), ListFault>
+        ensures variant { IsOk result ↔ (i < length self.old) }
+        ensures ok { OnOk result (self.new ≡ slice_set self.old i x) }
+        ensures err { IfErr result (λ f. (f ≡ NoSuchPlace) × (self.new ≡ self.old)) }
     {
-        i < self.len
-    }
-
-    // Another element at place i; false where there is no such place, and the list then stays.
-    pub fn set(&mut self, i: usize, x: T) -> bool
-        ensures value { result ≡ nat_lt i (length (held self.old)) }
-        ensures after { held self.new ≡ (if result then slice_set (held self.old) i x else held self.old) }
-        ensures len { length (held self.new) ≡ length (held self.old) }
-    {
-        if !self.holds(i) {
-            return false;
+        if i >= self.len {
+            return Err(ListFault::NoSuchPlace);
         }
         self.items[i] = x;
-        true
+        Ok(())
     }
 
     pub fn get(&self, i: usize) -> Option<T>
-        ensures { result ≡ slice_get (held self.now) i }
+        ensures { result ≡ slice_get self.now i }
     {
-        if self.holds(i) {
-            Some(self.items[i])
-        } else {
-            None
-        }
+        self.as_slice().get(i).copied()
     }
 
     pub fn as_slice(&self) -> &[T]
-        ensures { result.now ≡ held self.now }
+        ensures value { result.now ≡ self.now }
+        ensures bound { length result.now ≤ N }
     {
-        let all = &self.items[..];
-        &all[0..self.len]
+        &self.items[..self.len]
     }
 }

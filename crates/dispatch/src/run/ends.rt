@@ -14,26 +14,12 @@ pub fn start(table: ClosedTable) -> (Run, RunToken)
     ensures unspent { result.1.spent ≡ false }
     ensures agrees { ExecutionsAgree table }
 {
-    (Run::fresh(table), RunToken { spent: false })
-}
-
-fn late_among(log: &[JobRecord]) -> usize
-    ensures { result ≡ count_by (λ g. g.late) log.now }
-{
-    let mut late = 0;
-    for g in log {
-        if g.late {
-            late += 1;
-        }
-    }
-    late
-}
-
-// The entered records, as far as the log goes.
-fn entered_part(log: &[JobRecord], entered: usize) -> &[JobRecord]
-    ensures { result.now ≡ take entered log.now }
-{
-    &log[0..entered.min(log.len())]
+    let run = Run {
+        table,
+        clock: 0,
+        entered: 0,
+    };
+    (run, RunToken { spent: false })
 }
 
 // The table again, and the number of late jobs among the entered ones, as far as the log goes.
@@ -42,6 +28,10 @@ pub fn end(run: Run, mut token: RunToken, log: &[JobRecord]) -> (ClosedTable, us
     ensures late { result.1 ≡ count_by (λ g. g.late) (take run.entered log.now) }
 {
     token.spent = true;
-    let late = late_among(entered_part(log, run.entered));
-    (run.into_table(), late)
+    let Run {
+        table,
+        clock: _,
+        entered,
+    } = run;
+    (table, log.iter().take(entered).filter(|g| g.late).count())
 }

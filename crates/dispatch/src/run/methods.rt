@@ -1,32 +1,10 @@
-// A fresh run, and what a run holds.
+// What a run holds.
 ghost use Rattle.std.specs.Prelude.{◌≡◌, ◌≤◌};
-ghost use Rattle.dispatch.specs.Calls.{Fresh};
 
 use super::Run;
 use tables::table::ClosedTable;
 
 impl Run {
-    pub(super) fn fresh(table: ClosedTable) -> Run
-        ensures { Fresh table result }
-    {
-        Run {
-            table,
-            clock: 0,
-            entered: 0,
-        }
-    }
-
-    pub(super) fn into_table(self) -> ClosedTable
-        ensures { result ≡ self.table }
-    {
-        let Run {
-            table,
-            clock: _,
-            entered: _,
-        } = self;
-        table
-    }
-
     pub fn table(&self) -> &ClosedTable
         ensures { result.now ≡ self.now.table }
     {

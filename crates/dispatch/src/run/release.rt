@@ -1,18 +1,29 @@
 // Releasing a job.
-ghost use Rattle.std.specs.Result.{MatchResult};
+ghost use Rattle.std.specs.Prelude.{◌≡◌, MatchResult, count_by};
 ghost use Rattle.base.specs.Tests.{Passed, Refused};
+ghost use Rattle.loads.specs.Tables.{table_of};
+ghost use Rattle.tables.specs.Tables.{tasks_of};
 ghost use Rattle.dispatch.specs.Calls.{release_tests, Released};
+ghost use Rattle.dispatch.specs.Records.{is_task};
 ghost use Rattle.dispatch.specs.Refusals.{refusal_number};
 
 use super::Run;
-use crate::admission::{deadline_of, in_range, model_allows, of_task, task_count};
+use crate::admission::Admission;
 use crate::record::JobRecord;
 use crate::refusal::Refusal;
 use arrival::ArrivalModel;
 use arrival::class::Class;
+use tables::task::Task;
+
+// How many of the records are of the task.
+fn of_task(log: &[JobRecord], task: u8) -> usize
+    ensures { result ≡ count_by (is_task task) log.now }
+{
+    log.iter().filter(|g| g.task == task).count()
+}
 
 impl Run {
-    // The tests of a release, in their order.
+    // The tests of a release, in their order; the task where all pass.
     fn check_release<M: ArrivalModel>(
         &self,
         model: &M,
@@ -20,27 +31,34 @@ impl Run {
         task: u8,
         class: Class,
         work: u32,
-    ) -> Result<(), Refusal>
+    ) -> Result<&Task, Refusal>
         ensures { let tests = release_tests (M.meaning model.now) self.now log.now task class work in
-            MatchResult result (λ _. Passed tests) (λ e. Refused tests (refusal_number e)) }
+            MatchResult result
+            (λ t. Passed tests × (t.now.deadline ≡ (table_of (tasks_of self.now.table)).deadline task))
+            (λ e. Refused tests (refusal_number e)) }
     {
-        let tasks = task_count(&self.table);
-        if model.tasks() as usize != tasks {
+        let tasks = self.table.tasks();
+        if model.tasks() as usize != tasks.len() {
             return Err(Refusal::OtherTasks);
         }
-        if task as usize >= tasks {
-            return Err(Refusal::NoSuchTask);
-        }
-        if !in_range(&self.table, task, work) {
+        let found = tasks.get(task as usize).ok_or(Refusal::NoSuchTask)?;
+        if work < 1 || work > found.wcet() {
             return Err(Refusal::WorkOutOfRange);
         }
         if self.entered >= log.len() {
             return Err(Refusal::LogFull);
         }
-        if !model_allows(model, &log[0..self.entered], task, class, self.clock) {
+        let clock = self.clock;
+        let job = Admission {
+            model,
+            task,
+            class,
+            clock,
+        };
+        if !job.allowed(&log[..self.entered]) {
             return Err(Refusal::TooManyReleases);
         }
-        Ok(())
+        Ok(found)
     }
 
     // Enters a job of the task and class, released at the clock, and answers how many jobs of the task are now entered.
@@ -54,19 +72,18 @@ impl Run {
     ) -> Result<usize, Refusal>
         ensures { Released (M.meaning model.now) self.old log.old task class work result self.new log.new }
     {
-        self.check_release(model, log, task, class, work)?;
-        let at = self.entered;
-        log[at] = JobRecord {
+        let found = self.check_release(model, log, task, class, work)?;
+        log[self.entered] = JobRecord {
             task,
             class,
             release: self.clock,
-            due: self.clock + deadline_of(&self.table, task),
+            due: self.clock + found.deadline(),
             work,
             left: work,
             finish: 0,
             late: false,
         };
-        self.entered = at + 1;
-        Ok(of_task(&log[0..self.entered], task))
+        self.entered += 1;
+        Ok(of_task(&log[..self.entered], task))
     }
 }

@@ -19,10 +19,10 @@ impl Run {
         if self.clock >= MAX_CLOCK {
             return Err(Refusal::ClockAtEnd);
         }
-        let clock = self.clock + 1;
-        let served = serve(log, self.entered, clock);
-        mark_late(log, self.entered, clock);
-        self.clock = clock;
+        self.clock += 1;
+        let entered = &mut log[..self.entered];
+        let served = serve(entered, self.clock);
+        mark_late(entered, self.clock);
         Ok(served)
     }
 }

@@ -1,9 +1,9 @@
 // Making a staircase, and its counts.
-ghost use Rattle.std.specs.Prelude.{◌≡◌, ◌+◌, ◌*◌, ◌<◌, ◌≤◌, [], length, Decides};
-ghost use Rattle.base.specs.Faults.{Becomes};
+ghost use Rattle.std.specs.Prelude.{◌≡◌, ◌<◌, ◌≤◌, [], length, map, Decides};
+ghost use Rattle.base.specs.Faults.{Becomes, in_numbers};
 ghost use Rattle.base.specs.Numbers.{number};
 ghost use Rattle.staircase.specs.Laws.{staircase_laws};
-ghost use Rattle.staircase.specs.Stairs.{head_ok, points, points_ok, stairs, stairs_count, up_to};
+ghost use Rattle.staircase.specs.Stairs.{head_ok, points_ok, stairs, stairs_count, up_to};
 ghost use Rattle.staircase.specs.Values.{fault_number, stairs_of};
 
 use super::{Staircase, StaircaseFault};
@@ -13,13 +13,10 @@ const MAX_POINTS: u16 = 64;
 
 const MAX_REPEAT: u32 = 1_000_000;
 
-// Point number i of those that lie in `bytes`.
-fn point(bytes: &[u8], i: usize) -> u32
-    requires { 4 * i + 4 ≤ length bytes.now }
-    ensures { result ≡ number 4 (4 * i) bytes.now }
+fn point(bytes: &[u8; 4]) -> u32
+    ensures { result ≡ number 4 0 bytes.now }
 {
-    let at = 4 * i;
-    u32::from_be_bytes([bytes[at], bytes[at + 1], bytes[at + 2], bytes[at + 3]])
+    u32::from_be_bytes(*bytes)
 }
 
 fn head_fits(n: u16, repeat: u32) -> bool
@@ -35,14 +32,13 @@ fn may_follow(last: u32, p: u32) -> bool
     if last == 0 { p == 1 } else { last < p }
 }
 
-// Whether n points start at 1, rise strictly and end at most at `repeat`.
-fn rising(bytes: &[u8], n: u16, repeat: u32) -> bool
-    requires { 4 * n ≤ length bytes.now }
-    ensures { result ≡ points_ok repeat (points n bytes.now) }
+// Whether the points start at 1, rise strictly and end at most at `repeat`.
+fn rising(points: &[[u8; 4]], repeat: u32) -> bool
+    ensures { result ≡ points_ok repeat (map (number 4 0) points.now) }
 {
     let mut last = 0;
-    for i in 0..n {
-        let p = point(bytes, i as usize);
+    for bytes in points {
+        let p = point(bytes);
         if !may_follow(last, p) {
             return false;
         }
@@ -57,47 +53,43 @@ impl<'a> Staircase<'a> {
         ensures { stairs_of result ≡ record { repeat = 0; points = [] } }
     {
         Staircase {
-            bytes: &[],
-            n: 0,
+            points: &[],
             repeat: 0,
         }
     }
 
-    // Becomes the staircase of n points at the front of `bytes`; refused, it stays.
-    pub fn fill(&mut self, n: u16, repeat: u32, bytes: &'a [u8]) -> Result<(), StaircaseFault>
-        ensures { Becomes stairs_of fault_number (stairs n repeat bytes.now) result self.old self.new }
+    // The staircase of n points that lie at the front of `bytes`.
+    #[tactic(auto, using(std::proofs::lemmas::Grind::common_steps, crate::proofs::Chunks::points_in_chunks))]
+    pub fn new(n: u16, repeat: u32, bytes: &'a [u8]) -> Result<Staircase<'a>, StaircaseFault>
+        ensures { in_numbers stairs_of fault_number result ≡ stairs n repeat bytes.now }
     {
         if !head_fits(n, repeat) {
             return Err(StaircaseFault::Head);
         }
-        let size = 4 * n as usize;
-        if bytes.len() < size {
-            return Err(StaircaseFault::Missing);
-        }
-        let bytes = &bytes[0..size];
-        if !rising(bytes, n, repeat) {
+        let (all, _) = bytes.as_chunks::<4>();
+        let (points, _) = all
+            .split_at_checked(n as usize)
+            .ok_or(StaircaseFault::Missing)?;
+        if !rising(points, repeat) {
             return Err(StaircaseFault::Points);
         }
-        *self = Staircase { bytes, n, repeat };
+        Ok(Staircase { points, repeat })
+    }
+
+    // Becomes the staircase of n points at the front of `bytes`, in place, as its owner holds it; refused, it stays.
+    pub fn fill(&mut self, n: u16, repeat: u32, bytes: &'a [u8]) -> Result<(), StaircaseFault>
+        ensures { Becomes stairs_of fault_number (stairs n repeat bytes.now) result self.old self.new }
+    {
+        *self = Staircase::new(n, repeat, bytes)?;
         Ok(())
     }
 
-    // How many points are not above `rest`, by halving.
-    fn up_to(&self, rest: u32) -> u16
-        ensures value { result ≡ up_to rest (points self.now.n self.now.bytes.now) }
-        ensures bound { result ≤ self.now.n }
+    // How many points are not above `rest`.
+    fn up_to(&self, rest: u32) -> usize
+        ensures value { result ≡ up_to rest (stairs_of self.now).points }
+        ensures bound { result ≤ length self.now.points.now }
     {
-        let mut low = 0;
-        let mut high = self.n;
-        while low < high {
-            let middle = low + (high - low) / 2;
-            if point(self.bytes, middle as usize) <= rest {
-                low = middle + 1;
-            } else {
-                high = middle;
-            }
-        }
-        low
+        self.points.partition_point(|p| point(p) <= rest)
     }
 }
 
@@ -106,11 +98,12 @@ impl<'a> ArrivalCurve for Staircase<'a> {
 
     ghost lawful = { staircase_laws };
 
+    #[tactic(auto, using(crate::proofs::Counts::whole_at_most, crate::proofs::Counts::count_at_most))]
     fn count(&self, length: u32) -> u32 {
-        if self.n == 0 {
+        if self.points.is_empty() {
             return 0;
         }
-        let whole = self.n as u32 * (length / self.repeat);
+        let whole = self.points.len() as u32 * (length / self.repeat);
         whole + self.up_to(length % self.repeat) as u32
     }
 }

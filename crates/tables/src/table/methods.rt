@@ -1,67 +1,59 @@
 // Filling and closing tables; a table's meaning is the list of its tasks.
-ghost use Rattle.std.specs.Prelude.{◌≡◌, ◌≤◌, [], ◌∷◌, length, MatchOption};
-ghost use Rattle.base.specs.Bounded.{held};
+ghost use Rattle.std.specs.Prelude.{◌≡◌, [], ◌∷◌, MatchOption};
 ghost use Rattle.base.specs.Faults.{Becomes};
-ghost use Rattle.tables.specs.Tables.{added, replaced, open_tasks, closed_tasks, fault_number};
+ghost use Rattle.tables.specs.Faults.{fault_number};
+ghost use Rattle.tables.specs.Tables.{added, replaced, tasks_of};
 
-use super::{ClosedTable, MAX_TASKS, OpenTable, TableFault};
+use super::{ClosedTable, MAX_TASKS, OpenTable, Table, TableFault};
 use crate::task::Task;
 use base::bounded::BoundedList;
+use std::marker::PhantomData;
 
 impl OpenTable {
     // A table is made with its first task, so none is empty.
     pub fn new(first: Task) -> OpenTable
-        ensures { open_tasks result ≡ first ∷ [] }
+        ensures { tasks_of result ≡ first ∷ [] }
     {
         let mut tasks = BoundedList::new(first);
-        let _ = tasks.push(first);
-        OpenTable { tasks }
+        tasks.push(first).unwrap();
+        Table {
+            tasks,
+            state: PhantomData,
+        }
     }
 
     // The table of these tasks; there is none where the list is empty.
     pub fn from_list(tasks: BoundedList<Task, MAX_TASKS>) -> Option<OpenTable>
-        ensures { MatchOption result (held tasks ≡ []) (λ t. open_tasks t ≡ held tasks) }
+        ensures { MatchOption result (tasks ≡ []) (λ t. tasks_of t ≡ tasks) }
     {
         if tasks.len() == 0 {
             return None;
         }
-        Some(OpenTable { tasks })
+        Some(Table {
+            tasks,
+            state: PhantomData,
+        })
     }
 
     // One task more, at the end.
     pub fn add(&mut self, task: Task) -> Result<(), TableFault>
-        ensures { Becomes open_tasks fault_number (added task (open_tasks self.old)) result self.old self.new }
+        ensures { Becomes tasks_of fault_number (added task (tasks_of self.old)) result self.old self.new }
     {
-        if self.tasks.push(task) {
-            Ok(())
-        } else {
-            Err(TableFault::Full)
-        }
+        self.tasks.push(task)?;
+        Ok(())
     }
 
     // Another task at position i.
     pub fn replace(&mut self, i: u8, task: Task) -> Result<(), TableFault>
-        ensures { Becomes open_tasks fault_number (replaced i task (open_tasks self.old)) result self.old self.new }
+        ensures { Becomes tasks_of fault_number (replaced i task (tasks_of self.old)) result self.old self.new }
     {
-        if self.tasks.set(i as usize, task) {
-            Ok(())
-        } else {
-            Err(TableFault::NoSuchTask)
-        }
-    }
-
-    pub fn tasks(&self) -> &[Task]
-        ensures value { result.now ≡ open_tasks self.now }
-        ensures low_bound { 1 ≤ length result.now }
-        ensures high_bound { length result.now ≤ 32 }
-    {
-        self.tasks.as_slice()
+        self.tasks.set(i as usize, task)?;
+        Ok(())
     }
 
     pub fn close(self) -> ClosedTable
-        ensures { closed_tasks result ≡ open_tasks self }
+        ensures { tasks_of result ≡ tasks_of self }
     {
-        let OpenTable { tasks } = self;
-        ClosedTable { tasks }
+        self.into_state()
     }
 }

@@ -7,7 +7,7 @@ use Rattle.file_format.specs.Models.{model_of}
 use Rattle.loads.specs.Tables.{table_of, times_table}
 use Rattle.loads.proofs.Tables.{table_of-times}
 use Rattle.settings.specs.Values.{settings_of}
-use Rattle.tables.specs.Tables.{closed_tasks, open_tasks}
+use Rattle.tables.specs.Tables.{tasks_of}
 use Rattle.tables.specs.Tasks.{times_of}
 use Rattle.report.specs.Answers.{AnswerLines}
 use Rattle.report.specs.Lines.{tasks_line}
@@ -16,9 +16,9 @@ use Rattle.report.proofs.answers.accepted.Goals as goal
 
 pub returns : goal.returns
 returns c =
-    let ts = open_tasks c.args.table in
+    let ts = tasks_of c.args.table in
     let held = c.args.settings.now in
-    let closed = closed_tasks c.close-closed.result in
+    let closed = tasks_of c.close-closed.result in
     let qs = map question_of c.questions.result.now in
     let lines = string_bytes c.in_ok-lines.lines in
     let model = (λ i. chain (curves_meaning pjd_counts (c.model-model.ensures.first i)) (curves_meaning staircase_counts (c.model-model.ensures.second i))) ∙ model_meant ts held in

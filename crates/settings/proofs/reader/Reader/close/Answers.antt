@@ -1,30 +1,21 @@
-use Rattle.std.proofs.Common.{◌≡◌, length, sym, refl, ap, ◌∙◌, arith}
-use Rattle.std.proofs.lemmas.Bool.{cond-true, cond-false, eq-eqb, ne_eqb}
-use Rattle.entries.specs.declared.fault.Cause.TheVariants as cause
-use Rattle.file_format.specs.Entries.{question_entry}
-use Rattle.file_format.specs.File.{after}
-use Rattle.settings.specs.declared.reader.Reader.{Reader}
-use Rattle.settings.specs.declared.reader.Section.TheVariants.{Questions, End}
-use Rattle.settings.specs.Go.{so_far, go_in, behind_questions}
-use Rattle.settings.proofs.Steps.{entry_none, room_in, fault_is, fails, moves}
+use Rattle.std.proofs.Common.{◌≡◌, ◌<◌, Err, ap, sym, ◌∙◌, subst, rules, arith}
+use Rattle.std.proofs.lemmas.Bool.{cond-true, cond-false}
+use Rattle.entries.specs.Values.{fault_of}
+use Rattle.file_format.specs.File.{fault}
+use Rattle.settings.specs.Go.{go_in, weight_in}
+use Rattle.settings.proofs.Steps.{questions_done}
 use Rattle.settings.proofs.reader.Reader.close.Goals as goal
 
-ended : (r : Reader) → r.due ≡ 0 → go_in Questions r ≡ behind_questions r.file.now (so_far r).tasks (so_far r).curves (so_far r).staircases (so_far r).questions r.at
-ended r e =
-    ap (λ o. after o (behind_questions r.file.now (so_far r).tasks (so_far r).curves (so_far r).staircases))
-    (entry_none r.file.now question_entry 4 (so_far r).questions r.at r.due e)
-
-pub returns-then-self : goal.returns-then-self
-returns-then-self c =
+pub returns-then-not-is_at_end : goal.returns-then-not-is_at_end
+returns-then-not-is_at_end c =
     let r = c.args.self.now in
-    fails r Questions c.requires.1 c.from.result _
-    (ended r c.requires.2 ∙ cond-false _ _ _ (ne_eqb (length r.file.now) r.at (λ e. c.if-self.true (sym e))))
-    (fault_is c.from.result cause.Trailing _ c.from.ensures.0 (c.from.ensures.1 ∙ c.new.ensures))
+    let told : fault_of c.fault.result ≡ fault 20 5 0 r.cursor.at = search rules in
+    ap (λ t. go_in t r) c.requires.0 ∙ questions_done r c.requires.1 ∙ cond-false _ _ _ (sym c.if-not-is_at_end.ensures) ∙ ap Err (sym told)
 
 pub returns : goal.returns
 returns c =
     let r = c.args.self.now in
-    let room = room_in r Questions c.requires.0 c.requires.1 in
-    moves r Questions c.requires.1 _ End refl c.requires.0.inside room.0
-    (sym (ended r c.requires.2 ∙ cond-true _ _ _ (eq-eqb (length r.file.now) r.at (sym c.if-self.false))))
-    (omega arith)
+    record {
+      answer = sym (ap (λ t. go_in t r) c.requires.0 ∙ questions_done r c.requires.1 ∙ cond-true _ _ _ (sym c.if-not-is_at_end.ensures));
+      nearer = λ _. subst (λ t. 0 < weight_in t r.due) (sym c.requires.0) (omega arith);
+    }

@@ -1,24 +1,14 @@
-use Rattle.std.proofs.Common.{refl, ◌∙◌, arith}
-use Rattle.base.proofs.Held.{held_push}
-use Rattle.tables.specs.Tasks.{times_of}
-use Rattle.file_format.specs.Entries.{task_entry}
+use Rattle.std.proofs.Common.{arith}
 use Rattle.settings.specs.declared.reader.Section.TheVariants.{Tasks}
-use Rattle.settings.specs.Go.{behind_tasks}
-use Rattle.settings.proofs.Fits.{fits}
-use Rattle.settings.proofs.Steps.{inside, room_in, push_fails, push_moves}
+use Rattle.settings.proofs.Steps.{stops, moves, task_due}
 use Rattle.settings.proofs.reader.Reader.take_task.Goals as goal
 
-pub returns-in-Ok : goal.returns-in-Ok
-returns-in-Ok c =
+pub returns-in_err-push : goal.returns-in_err-push
+returns-in_err-push c =
     let r = c.args.self.now in
-    let room = room_in r Tasks c.requires.0 c.requires.1 in
-    let found = c.in-Ok.ensures in
-    let pushed = held_push r.tasks c.push.new.self c.in-Ok.task c.push.result c.push.ensures.value c.push.ensures.after (omega (arith, room.1, c.requires.2)) in
-    push_moves r Tasks c.requires.1 times_of r.tasks task_entry 1 r.due (behind_tasks r.file.now) refl c.requires.2 c.push.new.self c.in-Ok.task 8 pushed.0 found _ Tasks c.requires.1
-    (inside r.file.now r.at 8 c.requires.0.inside (fits 8 _ _ _ found))
-    (omega (arith, room.0, pushed.1), omega (arith, room.1, pushed.1, c.requires.2), room.2, room.3, room.4) refl (omega (arith, c.requires.2))
+    stops r Tasks c.requires.0 _ _ (task_due r c.requires.1) _ _ _ c.in_err-push.ensures.value c.from_residual.ensures.1
 
-pub returns-in-Err : goal.returns-in-Err
-returns-in-Err c =
+pub returns : goal.returns
+returns c =
     let r = c.args.self.now in
-    push_fails r Tasks c.requires.1 times_of r.tasks task_entry 1 r.due (behind_tasks r.file.now) refl c.requires.2 c.from.result c.in-Err.cause _ c.len-entry.ensures.value c.in-Err.ensures c.from.ensures.0 (c.from.ensures.1 ∙ c.new.ensures)
+    moves r Tasks c.requires.0 _ _ (task_due r c.requires.1) _ Tasks c.requires.0 _ _ c.in_ok-push.ensures.value (cc) (omega (arith, c.requires.1))

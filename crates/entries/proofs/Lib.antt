@@ -1,2 +1,0 @@
-pub mod Curves
-pub mod Staircases

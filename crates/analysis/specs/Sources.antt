@@ -1,7 +1,8 @@
 -- The sources of a question as a list, sets of them, and the cells over the states of their budgets.
-use Rattle.std.specs.Prelude.{◌≡◌, ℕ, ◌<◌, ◌≤◌, min, List, length, nat_le, slice_index, slice_index_or}
+use Rattle.std.specs.Prelude.{◌≡◌, ℕ, ◌<◌, ◌≤◌, min, List, map, length, nat_le, slice_index, slice_index_or}
 use Rattle.arrival.specs.declared.class.Class.TheVariants.{Overload}
 use Rattle.arrival.specs.Meaning.{Meaning}
+use Rattle.loads.specs.declared.combination.Combination.{Combination}
 use Rattle.theory.specs.Packings.{states}
 use Rattle.theory.specs.Search.{Among, Apart}
 use Rattle.theory.specs.States.{AllTake, Filled, Most, Suits, digit, offset}
@@ -42,6 +43,10 @@ pub record Gathered (b : ℕ → ℕ) (n : ℕ) (ss : List Source) : Type 0 wher
   pub all : (j : ℕ) → j < n → 1 ≤ b j → source_of ss j
   pub apart : Apart (task_of ss) (length ss)
   pub cells : states (budget_of ss) (length ss) ≡ states b n
+
+-- the sets of a list as numbers, each by the mask of its tasks
+abbrev pub masks : List Combination → List ℕ
+masks cs = map (λ c. c.mask) cs
 
 -- how many states the budgets have, which is how many cells are needed
 abbrev pub states_of : List Source → ℕ

@@ -23,7 +23,7 @@ pub(crate) struct BusyWindow<'a, M: ArrivalModel> {
     set: Combination,
     pub(crate) length: u32,
     ghost short: { length ≤ 1000000 },
-    ghost longest: { BusyLength (M.meaning level.now.model.now) (table_of level.now.tasks.now).wcet (member set) level.now.task length },
+    ghost longest: { BusyLength (M.meaning level.now.model.now) (table_of level.now.tasks.now).wcet (member set.mask) level.now.task length },
 }
 
 impl<'a, M: ArrivalModel> BusyWindow<'a, M> {
@@ -35,11 +35,11 @@ impl<'a, M: ArrivalModel> BusyWindow<'a, M> {
     ) -> Option<BusyWindow<'a, M>>
         requires { limit ≤ 1000000 }
         ensures { MatchOption result
-            ((w : ℕ) → w ≤ limit → Serves (level_load (M.meaning level.now.model.now) (table_of level.now.tasks.now).wcet (member set) level.now.task) w → ⊥)
+            ((w : ℕ) → w ≤ limit → Serves (level_load (M.meaning level.now.model.now) (table_of level.now.tasks.now).wcet (member set.mask) level.now.task) w → ⊥)
             (λ b. (b.level.now ≡ level.now) × (b.set ≡ set) × (b.length ≤ limit)) }
     {
         let load = LevelLoad {
-            level,
+            level: *level,
             combination: set,
         };
         let length = least_length(&load, limit)?;
@@ -52,14 +52,14 @@ impl<'a, M: ArrivalModel> BusyWindow<'a, M> {
             let t = table_of level.now.tasks.now in
             MatchOption result
             ((L : ℕ) × (L ≤ 1000000) × WindowLength m t level.now.task L → ⊥)
-            (λ b. (b.level.now ≡ level.now) × (b.set ≡ 4294967295)) }
+            (λ b. (b.level.now ≡ level.now) × (b.set.mask ≡ 4294967295)) }
     {
         BusyWindow::find(level, Combination::every(), MAX_WINDOW)
     }
 
     // The busy window with overload in the set only: no longer than this one, where every task may be overloaded.
     pub(crate) fn with_overload(&self, set: Combination) -> BusyWindow<'a, M>
-        requires { self.now.set ≡ 4294967295 }
+        requires { self.now.set.mask ≡ 4294967295 }
         ensures { (result.level.now ≡ self.now.level.now) × (result.set ≡ set) }
     {
         // No `unwrap`: tried, the borrow checker does not cover it for this type yet.
@@ -71,7 +71,7 @@ impl<'a, M: ArrivalModel> BusyWindow<'a, M> {
 
     // How many jobs of the task a stretch of this length holds at most.
     fn jobs(&self, length: u32) -> u64
-        ensures value { let l = self.now.level.now in result ≡ arrivals (M.meaning l.model.now) (member self.now.set) l.task length }
+        ensures value { let l = self.now.level.now in result ≡ arrivals (M.meaning l.model.now) (member self.now.set.mask) l.task length }
         ensures bound { result ≤ 2 * length }
     {
         arrivals_in(self.level.model, &self.set, self.level.task, length)
@@ -79,7 +79,7 @@ impl<'a, M: ArrivalModel> BusyWindow<'a, M> {
 
     // How many positions the window has.
     pub(crate) fn positions(&self) -> u32
-        ensures { let l = self.now.level.now in result ≡ arrivals (M.meaning l.model.now) (member self.now.set) l.task self.now.length }
+        ensures { let l = self.now.level.now in result ≡ arrivals (M.meaning l.model.now) (member self.now.set.mask) l.task self.now.length }
     {
         self.jobs(self.length) as u32
     }
@@ -94,7 +94,7 @@ impl<'a, M: ArrivalModel> BusyWindow<'a, M> {
     fn overdue(&self, q: u32, finish: u32) -> bool
         ensures { let l = self.now.level.now in
             let d = (table_of l.tasks.now).deadline l.task in
-            result ≡ (nat_lt d finish && nat_le q (arrivals (M.meaning l.model.now) (member self.now.set) l.task (finish - d))) }
+            result ≡ (nat_lt d finish && nat_le q (arrivals (M.meaning l.model.now) (member self.now.set.mask) l.task (finish - d))) }
     {
         let deadline = self.deadline();
         finish > deadline && self.jobs(finish - deadline) >= q as u64
@@ -102,11 +102,11 @@ impl<'a, M: ArrivalModel> BusyWindow<'a, M> {
 
     // Whether position q is late.
     fn is_late(&self, q: u32) -> bool
-        requires { let l = self.now.level.now in (1 ≤ q) × (q ≤ arrivals (M.meaning l.model.now) (member self.now.set) l.task self.now.length) }
-        ensures { let l = self.now.level.now in Decides result (LatePosition (M.meaning l.model.now) (table_of l.tasks.now) l.task (member self.now.set) q) }
+        requires { let l = self.now.level.now in (1 ≤ q) × (q ≤ arrivals (M.meaning l.model.now) (member self.now.set.mask) l.task self.now.length) }
+        ensures { let l = self.now.level.now in Decides result (LatePosition (M.meaning l.model.now) (table_of l.tasks.now) l.task (member self.now.set.mask) q) }
     {
         let load = PositionLoad {
-            level: self.level,
+            level: *self.level,
             combination: self.set,
             q,
         };
@@ -116,14 +116,14 @@ impl<'a, M: ArrivalModel> BusyWindow<'a, M> {
 
     // Whether some position is late.
     pub(crate) fn has_late(&self) -> bool
-        ensures { let l = self.now.level.now in Decides result (Unschedulable (M.meaning l.model.now) (table_of l.tasks.now) l.task (member self.now.set)) }
+        ensures { let l = self.now.level.now in Decides result (Unschedulable (M.meaning l.model.now) (table_of l.tasks.now) l.task (member self.now.set.mask)) }
     {
         (0..self.positions()).any(|earlier| self.is_late(earlier + 1))
     }
 
     // N: how many positions are late, where every task may be overloaded.
     pub(crate) fn late_positions(&self) -> u32
-        requires { self.now.set ≡ 4294967295 }
+        requires { self.now.set.mask ≡ 4294967295 }
         ensures { let l = self.now.level.now in LateCount (M.meaning l.model.now) (table_of l.tasks.now) l.task self.now.length result }
     {
         (0..self.positions())

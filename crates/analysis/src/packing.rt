@@ -1,7 +1,7 @@
 // How many combinations fit into the budgets of the sources at most: one cell for each state of the budgets, filled from the
 // empty state on.
 ghost use Rattle.std.specs.Prelude.{◌≡◌, ◌+◌, ◌<◌, ◌≤◌, max, length, drop, MatchOption};
-ghost use Rattle.analysis.specs.Sources.{CellsFilled, EachTakes, HasLeft, MostOf, back_by, budget_of, state_at, states_of};
+ghost use Rattle.analysis.specs.Sources.{CellsFilled, EachTakes, HasLeft, MostOf, back_by, budget_of, masks, state_at, states_of};
 
 use crate::sources::SourceList;
 use loads::combination::Combination;
@@ -28,7 +28,7 @@ impl SourceList {
 
     // How far back the state lies that has one less of each source in the set; none if a source in it has nothing left.
     fn step_back(&self, set: &Combination, place: usize) -> Option<usize>
-        ensures { let ss = self.now.sources in MatchOption result (HasLeft ss place set.now → ⊥) (λ back. HasLeft ss place set.now × (back ≡ back_by ss set.now)) }
+        ensures { let ss = self.now.sources in MatchOption result (HasLeft ss place set.now.mask → ⊥) (λ back. HasLeft ss place set.now.mask × (back ≡ back_by ss set.now.mask)) }
     {
         let mut rest = place;
         let mut stride = 1;
@@ -49,11 +49,11 @@ impl SourceList {
 
     // The greatest number of combinations that the state at a place allows, from the cells before it.
     fn best(&self, combinations: &[Combination], cells: &[u16], place: usize) -> u16
-        requires takes { EachTakes combinations.now self.now.sources }
+        requires takes { EachTakes (masks combinations.now) self.now.sources }
         requires within { place < states_of self.now.sources }
         requires room { states_of self.now.sources ≤ length cells.now }
-        requires filled { CellsFilled combinations.now self.now.sources cells.now place }
-        ensures { MostOf combinations.now self.now.sources (state_at self.now.sources place) result }
+        requires filled { CellsFilled (masks combinations.now) self.now.sources cells.now place }
+        ensures { MostOf (masks combinations.now) self.now.sources (state_at self.now.sources place) result }
     {
         let mut most = 0;
         for set in combinations {
@@ -66,9 +66,9 @@ impl SourceList {
 
     // Fills one cell for each state; the last one, where nothing is taken yet, is the answer.
     pub(crate) fn pack(&self, combinations: &[Combination], cells: &mut [u16]) -> u16
-        requires takes { EachTakes combinations.now self.now.sources }
+        requires takes { EachTakes (masks combinations.now) self.now.sources }
         requires room { states_of self.now.sources ≤ length cells.old }
-        ensures most { MostOf combinations.now self.now.sources (budget_of self.now.sources) result }
+        ensures most { MostOf (masks combinations.now) self.now.sources (budget_of self.now.sources) result }
         ensures kept { let n = states_of self.now.sources in drop n cells.new ≡ drop n cells.old }
     {
         let states = self.states();

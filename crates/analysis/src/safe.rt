@@ -18,7 +18,7 @@ use loads::level::Level;
 #[derive(Drop)]
 pub(crate) struct SafeLevel<'a, M: ArrivalModel> {
     pub(crate) longest: BusyWindow<'a, M>,
-    ghost every: { longest.set ≡ 4294967295 },
+    ghost every: { longest.set.mask ≡ 4294967295 },
     ghost safe: { let l = longest.level.now in Fails (M.meaning l.model.now) (table_of l.tasks.now) l.task 0 → ⊥ },
 }
 

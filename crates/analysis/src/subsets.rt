@@ -1,7 +1,7 @@
 // The sets of sources, each behind its own subsets.
 ghost use Rattle.std.specs.Prelude.{◌≡◌, ◌+◌, ◌<◌, ◌≤◌, length};
 ghost use Rattle.theory.specs.Search.{Lacks, Subsets, doubled};
-ghost use Rattle.analysis.specs.Sources.{source_of};
+ghost use Rattle.analysis.specs.Sources.{masks, source_of};
 
 use crate::sources::SourceList;
 use base::bounded::BoundedList;
@@ -12,8 +12,8 @@ pub(crate) const MAX_SETS: usize = 64;
 
 // Each set once more, with the task.
 fn add_task(sets: &mut BoundedList<Combination, MAX_SETS>, task: u8)
-    requires { (task < 32) × (length sets.old ≤ 32) × Lacks sets.old task }
-    ensures sets { sets.new ≡ doubled task sets.old }
+    requires { (task < 32) × (length sets.old ≤ 32) × Lacks (masks sets.old) task }
+    ensures sets { masks sets.new ≡ doubled task (masks sets.old) }
     ensures len { length sets.new ≡ length sets.old + length sets.old }
 {
     // By place: the list grows while it is read, so no borrow of it can stand.
@@ -25,7 +25,7 @@ fn add_task(sets: &mut BoundedList<Combination, MAX_SETS>, task: u8)
 
 impl SourceList {
     pub(crate) fn subsets(&self) -> BoundedList<Combination, MAX_SETS>
-        ensures { Subsets (source_of self.now.sources) result }
+        ensures { Subsets (source_of self.now.sources) (masks result) }
     {
         let mut sets = BoundedList::new(Combination::none());
         sets.push(Combination::none()).unwrap();

@@ -1,7 +1,5 @@
 pub mod Turns
 pub mod Fronts
-pub mod Least
-pub mod Waiting
 pub mod Allowed
 pub mod Units
 pub mod Schedules

@@ -19,18 +19,11 @@ pub struct JobRecord {
 }
 
 impl JobRecord {
-    // Whether the job is of the task and the class.
+    // Whether the job is of the task and the class; both are always compared, which is quicker over a log than to stop at one.
     pub(crate) fn is_kind(&self, task: u8, class: Class) -> bool
         ensures { result ≡ is_kind task class self.now }
     {
-        self.task == task && class == self.class
-    }
-
-    // What decides whose turn it is: the smallest task, and of one task the record that stands first.
-    pub(crate) fn turn(&self, at: usize) -> (u8, usize)
-        ensures { result ≡ (self.now.task, at) }
-    {
-        (self.task, at)
+        (self.task == task) & (class == self.class)
     }
 
     // One unit less; the last one ends the job at the clock.
@@ -38,10 +31,10 @@ impl JobRecord {
         requires { 0 < self.old.left }
         ensures { self.new ≡ unit_served clock self.old }
     {
-        self.left -= 1;
-        if self.left == 0 {
+        if self.left == 1 {
             self.finish = clock;
         }
+        self.left -= 1;
     }
 
     // Marks the job if it is late at the clock.

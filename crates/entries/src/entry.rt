@@ -4,6 +4,16 @@ ghost use Rattle.base.specs.Faults.{in_numbers};
 ghost use Rattle.file_format.specs.Entries.{Front};
 ghost use Rattle.entries.specs.Values.{with_size};
 
+// How many bytes an entry has; a staircase has its points behind its head. The length is tested before the bytes are read by
+// place: with `split_first_chunk` two goals of a task stayed open.
+pub const TASK_SIZE: usize = 8;
+
+pub const CURVES_SIZE: usize = 24;
+
+pub const HEAD_SIZE: usize = 6;
+
+pub const QUESTION_SIZE: usize = 7;
+
 pub trait Entry<'a>: Copy {
     // why there is none
     type Fault;

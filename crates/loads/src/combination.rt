@@ -3,22 +3,9 @@ ghost use Rattle.std.specs.Prelude.{◌≡◌, ◌<◌, true, Decides, ◌==◌,
 ghost use Rattle.theory.specs.Sets.{Subset, member};
 ghost use Rattle.loads.specs.Added.{added};
 
-use std::marker::Model;
-
 #[derive(Clone, Copy, PartialEq, Eq, Debug)]
 pub struct Combination {
     mask: u32,
-}
-
-// Clauses see the number that has these bits.
-impl Model for Combination {
-    ghost use Rattle.std.specs.Prelude.{ℕ};
-
-    ghost Value = { ℕ };
-
-    ghost view = { λ c. c.mask };
-
-    ghost inverse = { λ n. record { mask = n } };
 }
 
 // Whether bit j of the mask is set.
@@ -39,26 +26,26 @@ fn common(a: u32, b: u32) -> u32
 impl Combination {
     // Every task of a table.
     pub fn every() -> Combination
-        ensures { result ≡ 4294967295 }
+        ensures { result.mask ≡ 4294967295 }
     {
         Combination { mask: u32::MAX }
     }
 
     pub fn none() -> Combination
-        ensures { result ≡ 0 }
+        ensures { result.mask ≡ 0 }
     {
         Combination { mask: 0 }
     }
 
     pub fn is_empty(&self) -> bool
-        ensures { result ≡ (self.now == 0) }
+        ensures { result ≡ (self.now.mask == 0) }
     {
         self.mask == 0
     }
 
     // The set with task j added; it stays where no table has such a task.
     pub fn with(&self, j: u8) -> Combination
-        ensures { result ≡ added self.now j }
+        ensures { result.mask ≡ added self.now.mask j }
     {
         if j >= 32 {
             return *self;
@@ -70,14 +57,14 @@ impl Combination {
 
     // Whether every task in the set is in the other one too.
     pub fn is_subset(&self, other: &Combination) -> bool
-        ensures { Decides result (Subset self.now other.now) }
+        ensures { Decides result (Subset self.now.mask other.now.mask) }
     {
         common(self.mask, other.mask) == self.mask
     }
 
     // Whether task j is in the set; a table has 32 tasks at most.
     pub fn contains(&self, j: u8) -> bool
-        ensures value { result ≡ member self.now j }
+        ensures value { result ≡ member self.now.mask j }
         ensures low { result ≡ true → j < 32 }
     {
         let mask = self.mask;

@@ -1,5 +1,5 @@
 // The level of a task: the task and those before it, in a table under a model.
-ghost use Rattle.std.specs.Prelude.{◌≡◌, ◌*◌, ◌<◌, ◌≤◌, length};
+ghost use Rattle.std.specs.Prelude.{◌≡◌, ◌*◌, ◌<◌, ◌≤◌, ⊤, length};
 ghost use Rattle.theory.specs.Levels.{demand};
 ghost use Rattle.theory.specs.Sets.{member};
 ghost use Rattle.loads.specs.Works.{wcet_of};
@@ -7,9 +7,9 @@ ghost use Rattle.loads.specs.Works.{wcet_of};
 use crate::combination::Combination;
 use crate::kinds::arrivals_in;
 use arrival::ArrivalModel;
+use std::alloc::AllocError;
 use tables::task::Task;
 
-#[derive(Drop)]
 pub struct Level<'a, M> {
     pub model: &'a M,
     pub tasks: &'a [Task],
@@ -17,6 +17,19 @@ pub struct Level<'a, M> {
     ghost few: { length tasks.now ≤ 32 },
     ghost held: { task < length tasks.now },
 }
+
+impl<'a, M> Clone for Level<'a, M> {
+    ghost is_clone = { λ x y. y ≡ x };
+
+    ghost is_infallible = { λ _. ⊤ };
+
+    fn clone(&self) -> Result<Level<'a, M>, AllocError> {
+        Ok(*self)
+    }
+}
+
+// It only borrows a model and tasks, so it is copied whatever the model.
+impl<'a, M> Copy for Level<'a, M> {}
 
 impl<'a, M: ArrivalModel> Level<'a, M> {
     // The work of q jobs of the task.
@@ -30,7 +43,7 @@ impl<'a, M: ArrivalModel> Level<'a, M> {
     // The work that the first n tasks bring in a window of this length at most; by their number, as its definition has it.
     pub(crate) fn demand(&self, combination: &Combination, n: usize, window: u32) -> u64
         requires { n ≤ length self.now.tasks.now }
-        ensures value { let l = self.now in result ≡ demand (M.meaning l.model.now) (wcet_of l.tasks.now) (member combination.now) n window }
+        ensures value { let l = self.now in result ≡ demand (M.meaning l.model.now) (wcet_of l.tasks.now) (member combination.now.mask) n window }
         ensures bound { result ≤ n * 858993459200000 }
     {
         let mut sum = 0;

@@ -1,5 +1,5 @@
 // What a settings file fills besides the table: the models of its tasks, and its questions.
-ghost use Rattle.std.specs.Prelude.{◌≡◌, true, is_ok};
+ghost use Rattle.std.specs.Prelude.{◌≡◌, ◌≤◌, true, length, is_ok};
 ghost use Rattle.file_format.specs.File.{settings};
 ghost use Rattle.file_format.specs.Settings.{Settings as FileSettings};
 ghost use Rattle.settings.specs.Read.{AreBytesOf, Empty, ReadsFile};
@@ -78,21 +78,24 @@ impl<'a> Settings<'a> {
     }
 
     pub fn questions(&self) -> &[Question]
-        ensures { result.now ≡ self.now.questions }
+        ensures value { result.now ≡ self.now.questions }
+        ensures bound { length result.now ≤ 16 }
     {
         self.questions.as_slice()
     }
 
     // The model of the first tasks.
     pub fn pjd_model(&self) -> PjdModel<'_>
-        ensures { result.tasks.now ≡ self.now.curves }
+        ensures value { result.tasks.now ≡ self.now.curves }
+        ensures bound { length result.tasks.now ≤ 32 }
     {
         PjdModel::new(self.curves.as_slice())
     }
 
     // The model of the tasks behind them.
     pub fn staircase_model(&self) -> StaircaseModel<'_>
-        ensures { result.tasks.now ≡ self.now.staircases }
+        ensures value { result.tasks.now ≡ self.now.staircases }
+        ensures bound { length result.tasks.now ≤ 32 }
     {
         StaircaseModel::new(self.staircases.as_slice())
     }
@@ -101,6 +104,8 @@ impl<'a> Settings<'a> {
     pub fn model(&self) -> ChainedModel<PjdModel<'_>, StaircaseModel<'_>>
         ensures first { result.first.tasks.now ≡ self.now.curves }
         ensures second { result.second.tasks.now ≡ self.now.staircases }
+        ensures first_bound { length result.first.tasks.now ≤ 32 }
+        ensures second_bound { length result.second.tasks.now ≤ 32 }
     {
         ChainedModel {
             first: self.pjd_model(),

@@ -1,3 +1,3 @@
 pub mod Chunks
-pub mod Parted
+pub mod Halving
 pub mod Counts

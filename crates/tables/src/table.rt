@@ -22,6 +22,7 @@ pub struct Table<State> {
     tasks: BoundedList<Task, MAX_TASKS>,
     state: PhantomData<State>,
     ghost some: { 1 ≤ length tasks },
+    ghost few: { length tasks ≤ 32 },
 }
 
 pub type OpenTable = Table<Open>;

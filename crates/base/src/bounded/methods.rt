@@ -28,6 +28,7 @@ impl<T: Copy, const N: usize> BoundedList<T, N> {
         ensures variant { IsOk result ↔ (length self.old < N) }
         ensures ok { OnOk result (self.new ≡ self.old ++ x ∷ []) }
         ensures err { IfErr result (λ f. (f ≡ Full) × (self.new ≡ self.old)) }
+        ensures bound { length self.new ≤ N }
     {
         if self.len >= N {
             return Err(ListFault::Full);
@@ -42,6 +43,7 @@ impl<T: Copy, const N: usize> BoundedList<T, N> {
         ensures variant { IsOk result ↔ (i < length self.old) }
         ensures ok { OnOk result (self.new ≡ slice_set self.old i x) }
         ensures err { IfErr result (λ f. (f ≡ NoSuchPlace) × (self.new ≡ self.old)) }
+        ensures bound { length self.new ≤ N }
     {
         if i >= self.len {
             return Err(ListFault::NoSuchPlace);
@@ -51,7 +53,8 @@ impl<T: Copy, const N: usize> BoundedList<T, N> {
     }
 
     pub fn get(&self, i: usize) -> Option<T>
-        ensures { result ≡ slice_get self.now i }
+        ensures value { result ≡ slice_get self.now i }
+        ensures bound { length self.now ≤ N }
     {
         self.as_slice().get(i).copied()
     }

@@ -33,5 +33,6 @@ pub fn end(run: Run, mut token: RunToken, log: &[JobRecord]) -> (ClosedTable, us
         clock: _,
         entered,
     } = run;
-    (table, log.iter().take(entered).filter(|g| g.late).count())
+    let records = &log[..entered.min(log.len())];
+    (table, records.iter().map(|g| usize::from(g.late)).sum())
 }

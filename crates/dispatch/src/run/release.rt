@@ -19,7 +19,7 @@ use tables::task::Task;
 fn of_task(log: &[JobRecord], task: u8) -> usize
     ensures { result ≡ count_by (is_task task) log.now }
 {
-    log.iter().filter(|g| g.task == task).count()
+    log.iter().map(|g| usize::from(g.task == task)).sum()
 }
 
 impl Run {

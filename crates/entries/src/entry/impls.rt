@@ -10,7 +10,7 @@ ghost use Rattle.tables.specs.Tasks.{Times, times_of};
 ghost use Rattle.entries.specs.Values.{cause_number, curve_of, curves_of, question_of};
 ghost use Rattle.entries.specs.Within.{curves_within, question_within, staircase_within, task_within};
 
-use super::Entry;
+use super::{CURVES_SIZE, Entry, HEAD_SIZE, QUESTION_SIZE, TASK_SIZE};
 use crate::bytes::bytes_at;
 use crate::fault::Cause;
 use crate::question::Question;
@@ -18,16 +18,6 @@ use pjd::PjdCurves;
 use pjd::curve::{CurveFault, PjdCurve};
 use staircase::stairs::{Staircase, StaircaseFault};
 use tables::task::Task;
-
-// How many bytes an entry has; a staircase has its points behind its head. The length is tested before the bytes are read by
-// place: with `split_first_chunk` two goals of a task stayed open.
-const TASK_SIZE: usize = 8;
-
-const CURVES_SIZE: usize = 24;
-
-const HEAD_SIZE: usize = 6;
-
-const QUESTION_SIZE: usize = 7;
 
 impl<'a> Entry<'a> for Task {
     type Fault = Cause;

@@ -18,9 +18,9 @@ returns-in-Some g c =
     let b = c.in-Some.longest in
     let l = b.level.now in
     let m = g.M.ArrivalModel.meaning l.model.now in
-    let full = λ (j : ℕ) (h : j < suc l.task). every-member b.set c.in-Some.ensures.1 j (omega (arith, l.few, l.held)) in
-    let window = longest m (table_of l.tasks.now) l.task (member b.set) full b.length b.longest in
-    let count = c.positions.ensures ∙ arrivals_same m (member b.set) every l.task b.length (full l.task (omega arith)) in
+    let full = λ (j : ℕ) (h : j < suc l.task). every-member b.set.mask c.in-Some.ensures.1 j (omega (arith, l.few, l.held)) in
+    let window = longest m (table_of l.tasks.now) l.task (member b.set.mask) full b.length b.longest in
+    let count = c.positions.ensures ∙ arrivals_same m (member b.set.mask) every l.task b.length (full l.task (omega arith)) in
     let here = c.in_ok-level.ensures in
     let found =
     of_parts (Found b.length c.positions.result) (ap (g.M.ArrivalModel.meaning) here.1) here.2 here.3

@@ -25,7 +25,7 @@ returns c =
     let meant = model_of (settings_of ts held) in
     let table = ap table_of c.close-closed.ensures ∙ table_of-times ts in (
       lines,
-      subst (λ qs. AnswerLines meant (times_table (map times_of ts)) (map question_of qs) lines) c.questions.ensures
+      subst (λ qs. AnswerLines meant (times_table (map times_of ts)) (map question_of qs) lines) c.questions.ensures.value
           (subst (λ t. AnswerLines meant t qs lines) table
           (subst (λ m. AnswerLines m (table_of closed) qs lines) model c.in_ok-lines.ensures)),
       c.in_ok-push_str.ensures.bytes

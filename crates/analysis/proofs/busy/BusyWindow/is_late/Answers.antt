@@ -12,7 +12,7 @@ unwrap-finish-requires g c =
     let b = c.args.self.now in
     let l = b.level.now in
     some_answer c.least_length.result _ _ c.least_length.ensures (λ none. none b.length (omega arith)
-    (serves-position (g.M.ArrivalModel.meaning l.model.now) (g.M.ArrivalModel.monotone l.model.now) (table_of l.tasks.now) l.task (member b.set) c.args.q b.length c.requires.1 b.longest.0))
+    (serves-position (g.M.ArrivalModel.meaning l.model.now) (g.M.ArrivalModel.monotone l.model.now) (table_of l.tasks.now) l.task (member b.set.mask) c.args.q b.length c.requires.1 b.longest.0))
 
 pub returns : goal.returns
 returns g c =
@@ -21,6 +21,6 @@ returns g c =
     let m = g.M.ArrivalModel.meaning l.model.now in
     let t = table_of l.tasks.now in
     let found = MatchOption-at_some _ _ c.unwrap-finish.result c.unwrap-finish.ensures c.least_length.ensures in
-    subst (λ r. Decides r (LatePosition m t l.task (member b.set) c.args.q)) (sym c.overdue.ensures)
-    (late_decides m (g.M.ArrivalModel.monotone l.model.now) t l.task (member b.set)
+    subst (λ r. Decides r (LatePosition m t l.task (member b.set.mask) c.args.q)) (sym c.overdue.ensures)
+    (late_decides m (g.M.ArrivalModel.monotone l.model.now) t l.task (member b.set.mask)
     b.length (omega (arith, b.short)) b.longest c.args.q c.unwrap-finish.result c.requires.0 c.requires.1 found.0 found.1)

@@ -13,6 +13,6 @@ unreachable-requires g c =
     let l = b.level.now in
     let m = g.M.ArrivalModel.meaning l.model.now in
     let t = table_of l.tasks.now in
-    let window = longest m t l.task (member b.set) (λ j h. every-member b.set c.requires j (omega (arith, l.few, l.held))) b.length b.longest in
+    let window = longest m t l.task (member b.set.mask) (λ j h. every-member b.set.mask c.requires j (omega (arith, l.few, l.held))) b.length b.longest in
     c.in-None.ensures b.length (omega arith)
-    (serves-within m (g.M.ArrivalModel.monotone l.model.now) t l.task (member c.args.set) every (λ _ _. refl) b.length (omega (arith, b.short)) window.0)
+    (serves-within m (g.M.ArrivalModel.monotone l.model.now) t l.task (member c.args.set.mask) every (λ _ _. refl) b.length (omega (arith, b.short)) window.0)

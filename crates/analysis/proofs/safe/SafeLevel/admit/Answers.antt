@@ -1,4 +1,4 @@
-use Rattle.std.proofs.Common.{sym, refl, ◌∙◌, subst, inl, inr, arith}
+use Rattle.std.proofs.Common.{sym, refl, ap, ◌∙◌, subst, inl, inr, arith}
 use Rattle.std.proofs.lemmas.Bool.{both_ways}
 use Rattle.loads.specs.Tables.{table_of}
 use Rattle.loads.proofs.Masks.{every-member}
@@ -14,9 +14,9 @@ returns-then-has_late g c =
     let l = b.level.now in
     let m = g.M.ArrivalModel.meaning l.model.now in
     let same = c.in-Some.ensures.0 in
-    let late = subst (Fails (g.M.ArrivalModel.meaning w.level.now.model.now) (table_of w.level.now.tasks.now) w.level.now.task) (c.with_overload.ensures.1 ∙ c.none.ensures) (c.has_late.ensures.0 c.if-has_late.true) in
+    let late = subst (Fails (g.M.ArrivalModel.meaning w.level.now.model.now) (table_of w.level.now.tasks.now) w.level.now.task) (ap (λ c. c.mask) c.with_overload.ensures.1 ∙ c.none.ensures) (c.has_late.ensures.0 c.if-has_late.true) in
     let fails = subst (λ l. Fails (g.M.ArrivalModel.meaning l.model.now) (table_of l.tasks.now) l.task 0) (c.with_overload.ensures.0 ∙ same) late in
-    let window = longest m (table_of l.tasks.now) l.task (member b.set) (λ j h. every-member b.set c.in-Some.ensures.1 j (omega (arith, l.few, l.held))) b.length b.longest in
+    let window = longest m (table_of l.tasks.now) l.task (member b.set.mask) (λ j h. every-member b.set.mask c.in-Some.ensures.1 j (omega (arith, l.few, l.held))) b.length b.longest in
     inr (
       (b.length, b.short, subst (λ l. WindowLength (g.M.ArrivalModel.meaning l.model.now) (table_of l.tasks.now) l.task b.length) same window),
       inl ((λ safe. safe fails), refl),
@@ -29,13 +29,13 @@ returns g c =
     let l = b.level.now in
     let m = g.M.ArrivalModel.meaning l.model.now in
     let same = c.in-Some.ensures.0 in
-    let window = longest m (table_of l.tasks.now) l.task (member b.set) (λ j h. every-member b.set c.in-Some.ensures.1 j (omega (arith, l.few, l.held))) b.length b.longest in (
+    let window = longest m (table_of l.tasks.now) l.task (member b.set.mask) (λ j h. every-member b.set.mask c.in-Some.ensures.1 j (omega (arith, l.few, l.held))) b.length b.longest in (
       same,
       b.short,
       subst (λ l. WindowLength (g.M.ArrivalModel.meaning l.model.now) (table_of l.tasks.now) l.task b.length) same window,
       λ fails.
           let back = subst (λ l. Fails (g.M.ArrivalModel.meaning l.model.now) (table_of l.tasks.now) l.task 0) (sym (c.with_overload.ensures.0 ∙ same)) fails in
-          let late = subst (Fails (g.M.ArrivalModel.meaning w.level.now.model.now) (table_of w.level.now.tasks.now) w.level.now.task) (sym (c.with_overload.ensures.1 ∙ c.none.ensures)) back in
+          let late = subst (Fails (g.M.ArrivalModel.meaning w.level.now.model.now) (table_of w.level.now.tasks.now) w.level.now.task) (sym (ap (λ c. c.mask) c.with_overload.ensures.1 ∙ c.none.ensures)) back in
           both_ways _ c.if-has_late.false (c.has_late.ensures.1 late),
     )
 
@@ -46,6 +46,6 @@ invariant_of-result g c =
       every = c.in-Some.ensures.1;
       safe = λ fails.
           let back = subst (λ l. Fails (g.M.ArrivalModel.meaning l.model.now) (table_of l.tasks.now) l.task 0) (sym c.with_overload.ensures.0) fails in
-          let late = subst (Fails (g.M.ArrivalModel.meaning w.level.now.model.now) (table_of w.level.now.tasks.now) w.level.now.task) (sym (c.with_overload.ensures.1 ∙ c.none.ensures)) back in
+          let late = subst (Fails (g.M.ArrivalModel.meaning w.level.now.model.now) (table_of w.level.now.tasks.now) w.level.now.task) (sym (ap (λ c. c.mask) c.with_overload.ensures.1 ∙ c.none.ensures)) back in
           both_ways _ c.if-has_late.false (c.has_late.ensures.1 late);
     }

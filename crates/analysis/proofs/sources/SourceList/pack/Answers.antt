@@ -1,7 +1,7 @@
 use Rattle.std.proofs.Common.{◌≡◌, ◌-◌, ◌<◌, ◌≤◌, length, get_or, sym, ◌∙◌, subst, arith}
 use Rattle.std.proofs.lemmas.List.{drop-set-lt}
 use Rattle.theory.proofs.Radix.{states_positive}
-use Rattle.analysis.specs.Sources.{CellsFilled, MostOf, budget_of, states_of}
+use Rattle.analysis.specs.Sources.{CellsFilled, MostOf, budget_of, masks, states_of}
 use Rattle.analysis.proofs.PackSteps.{write, last}
 use Rattle.analysis.proofs.sources.SourceList.pack.Goals as goal
 
@@ -12,7 +12,7 @@ loop-place-preserved c =
     let p = c.loop-place.place in
     let within : p < states_of ss = omega (arith, c.states-states.ensures) in
     let room : states_of ss ≤ length cells = omega (arith, c.requires.room, c.loop-place.auto.cells) in (
-      write c.args.combinations.now ss c.args.self.now.lawful c.requires.takes cells p within c.loop-place.invariant.0 c.best.result room c.best.ensures,
+      write (masks c.args.combinations.now) ss c.args.self.now.lawful c.requires.takes cells p within c.loop-place.invariant.0 c.best.result room c.best.ensures,
       drop-set-lt (states_of ss) cells p c.best.result within ∙ c.loop-place.invariant.1,
     )
 
@@ -25,7 +25,7 @@ bounds-cells-states c =
 
 pub returns : goal.returns
 returns c =
-    let cs = c.args.combinations.now in
+    let cs = masks c.args.combinations.now in
     let ss = c.args.self.now.sources in
     let cells = c.loop-place.cells in
     let end : c.loop-place.place ≡ states_of ss = omega (arith, c.states-states.ensures, c.loop-place.auto.place-end) in

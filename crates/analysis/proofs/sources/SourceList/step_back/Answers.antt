@@ -16,7 +16,7 @@ overflow_add-back c =
     let ss = c.as_slice-source-items.result.now in
     let lawful = subst Sources (sym c.as_slice-source-items.ensures.value) c.args.self.now.lawful in
     let s = c.loop-source.source-index in
-    omega (arith, c.loop-source.invariant.0, c.loop-source.invariant.2, states-fits ss lawful s (omega arith), offset-fits ss lawful c.args.set.now s (omega arith), lawful.few)
+    omega (arith, c.loop-source.invariant.0, c.loop-source.invariant.2, states-fits ss lawful s (omega arith), offset-fits ss lawful c.args.set.now.mask s (omega arith), lawful.few)
 
 pub overflow_mul-stride : goal.overflow_mul-stride
 overflow_mul-stride c =
@@ -30,7 +30,7 @@ pub loop-source-preserved : goal.loop-source-preserved
 loop-source-preserved c =
     let ss = c.as_slice-source-items.result.now in
     let s = c.loop-source.source-index in
-    let set = c.args.set.now in
+    let set = c.args.set.now.mask in
     let place = c.args.place in
     let b = budget_of ss in
     let one = add-one s in (

@@ -8,5 +8,5 @@ abbrev pub invariant-loop-source : goal.invariant-loop-source
 invariant-loop-source l =
     (l.stride ≡ states (budget_of l.source-items) l.source-index)
     × (l.rest ≡ l.place / states (budget_of l.source-items) l.source-index)
-    × (l.back ≡ offset (budget_of l.source-items) (task_of l.source-items) l.set l.source-index)
-    × Suits (task_of l.source-items) l.source-index (state_at l.source-items l.place) l.set
+    × (l.back ≡ offset (budget_of l.source-items) (task_of l.source-items) l.set.mask l.source-index)
+    × Suits (task_of l.source-items) l.source-index (state_at l.source-items l.place) l.set.mask

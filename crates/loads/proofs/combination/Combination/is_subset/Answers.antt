@@ -5,10 +5,9 @@ use Rattle.loads.proofs.combination.Combination.is_subset.Goals as goal
 
 pub returns : goal.returns
 returns c =
-    let a = c.self.inside.mask in
-    let b = c.other.inside.mask in
-    let both = c.common.ensures in
-    rw (← c.self.view_is, ← c.other.view_is) (
+    let a = c.args.self.now.mask in
+    let b = c.args.other.now.mask in
+    let both = c.common.ensures in (
       λ e. and_subset a b (sym both ∙ eqb-true c.common.result a e),
       λ inside. eq-eqb c.common.result a (both ∙ subset_and a b inside),
     )

@@ -21,6 +21,6 @@ loop-j-preserved g c =
     let wcet = c.wcet.ensures.value ∙ sym (wcet_read ts j task (omega (arith, c.requires)) read) in
     let one = mul-le c.wcet.result c.arrivals_in-jobs.result 100000 8589934592 c.wcet.ensures.high_bound (omega (arith, c.arrivals_in-jobs.ensures.bound)) in (
       (λ i. c.loop-j.invariant.0 i + wcet i * c.arrivals_in-jobs.ensures.value i)
-          ∙ sym (total_more (λ j. wcet_of ts j * arrivals m (member c.args.combination.now) j c.args.window) j),
+          ∙ sym (total_more (λ j. wcet_of ts j * arrivals m (member c.args.combination.now.mask) j c.args.window) j),
       omega arith,
     )

@@ -6,5 +6,5 @@ use Rattle.loads.proofs.level.Level.demand.Given as goal
 
 abbrev pub invariant-loop-j : goal.invariant-loop-j
 invariant-loop-j g l =
-    (l.sum ≡ demand (g.M.ArrivalModel.meaning l.self.model.now) (wcet_of l.self.tasks.now) (member l.combination) l.j l.window)
+    (l.sum ≡ demand (g.M.ArrivalModel.meaning l.self.model.now) (wcet_of l.self.tasks.now) (member l.combination.mask) l.j l.window)
     × (l.sum ≤ l.j * 858993459200000)
